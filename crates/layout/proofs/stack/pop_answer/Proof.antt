@@ -1,0 +1,31 @@
+-- `pop_answer` meets its contract: 11 at height 0, else the entry below the height.
+use borrow.Author.Needs.{needs}
+use borrow.Author.Tests.{eq-eqb, ne-eqb}
+use Rattle.layout.specs.Stack.{popAnswer}
+use Rattle.layout.proofs.stack.pop_answer.Statement.{statement}
+use Rattle.layout.proofs.stack.pop_answer.Tie as tie
+
+height-requires : tie.Need-height-requires
+height-requires c κs = search needs
+
+returns : tie.Need-returns
+unfolding popAnswer
+returns c = simp (← c .before .height .ensures, eq-eqb _ 0 (c .if1 .taken))
+
+sub-at : tie.Need-sub-at
+sub-at c = search needs
+
+element-copy-out-wide : tie.Need-element-copy-out-wide
+element-copy-out-wide c = search needs
+
+wide-requires : tie.Need-wide-requires
+wide-requires c κs = search needs
+
+returns-2 : tie.Need-returns-2
+unfolding popAnswer
+returns-2 c = simp (c .wide .ensures, ← c .before .before .before .height .ensures, ne-eqb _ 0 (c .before .before .if1 .left))
+
+pub pop-answer-spec : {M : Type 1} → statement M
+pop-answer-spec =
+    tie.close
+    (tie.spec height-requires returns sub-at element-copy-out-wide wide-requires returns-2)

@@ -1,0 +1,13 @@
+-- The definitions that the contracts cite, and the laws that callers use of them.
+pub mod Choice
+pub mod Handle
+pub mod Header
+pub mod HandleLaws
+pub mod Bitmap
+pub mod Digits
+pub mod BitmapLaws
+pub mod Rights
+pub mod Display
+pub mod DisplayLaws
+pub mod Stack
+pub mod StackLaws
