@@ -1,0 +1,215 @@
+-- What an accepted call has passed: one record for each op, from its status being 0.
+-- Assumes nothing.
+use Prim.Native.Nat.{ℕ, zero, suc, _+_, _-_, _≤_, _<_}
+use mathlib.Core.Bool.{Bool, true, false, not, _&&_, _||_}
+use mathlib.Core.Path.{_≡_, refl}
+use native.Mathlib.Omega.{arith}
+use lib.Dec.{eqb, leb, ltb}
+use borrow.Author.Tests.{ltb-true, ltb-false, leb-true, leb-false, eqb-true, eqb-false, lt-ltb, le-leb, le-ltb, not-false, not-true}
+use Rattle.layout.specs.Choice.{refuse, peel, and-true, and-false, or-false}
+use Rattle.layout.specs.Handle.{null, areaOf}
+use Rattle.layout.specs.Header.{slotsOf, dataOf}
+use Rattle.model.specs.State.{State, Memory, areaAt, threadAt, stackAt, innermost, isMade, isOpen}
+use Rattle.model.specs.Checks.{fits, isStarted, admit, hasRight, headerAt, live, isObject, isReference, useStatus}
+use Rattle.model.specs.Threads.{isKind, startStatus, endStatus}
+use Rattle.model.specs.Scopes.{makeStatus, lastGeneration, otherParent, worn, enterStatus, exitStatus}
+use Rattle.model.specs.Objects.{currentAt, allocateStatus}
+use Rattle.model.specs.References.{mayRefer, wordAfter, slotStatus, referenceStatus, storeStatus, loadStatus}
+use Rattle.model.specs.Data.{dataStatus}
+
+module _ (s : State) (m : Memory) (t : ℕ) where
+  -- refusals 1 and 2
+  pub record Admitted : Type 0 where
+    pub lent : fits s m ≡ true
+    pub thread : t < 16
+    pub started : 0 < threadAt s t .kind
+
+  pub admitted : (rest : ℕ) → admit s m t rest ≡ 0 → Admitted × (rest ≡ 0)
+  unfolding admit
+  admitted rest e =
+      let a = peel _ _ _ e in
+      let b = peel _ _ _ (a .1) in
+      let c = peel _ _ _ (b .1) in (
+        record {
+          lent = not-false (fits s m) (a .0);
+          thread = omega (arith, leb-false);
+          started = ltb-true _ _ (not-false _ (c .0));
+        },
+        c .1,
+      )
+
+  -- op 01
+  pub record StartOk (p : ℕ) : Type 0 where
+    pub lent : fits s m ≡ true
+    pub thread : t < 16
+    pub idle : threadAt s t .kind ≡ 0
+    pub some : 0 < p
+    pub kind : p < 4
+
+  pub start-ok : (p : ℕ) → startStatus s m t p ≡ 0 → StartOk p
+  unfolding startStatus
+  start-ok p e =
+      let a = peel _ _ _ e in
+      let b = peel _ _ _ (a .1) in
+      let c = peel _ _ _ (b .1) in
+      let d = peel _ _ _ (c .1) in
+      let k = and-true (ltb 0 p) _ (not-false (isKind p) (d .0)) in
+      record {
+        lent = not-false (fits s m) (a .0);
+        thread = omega (arith, leb-false);
+        idle = omega (arith, ltb-false);
+        some = omega (arith, ltb-true);
+        kind = omega (arith, ltb-true);
+      }
+
+  -- op 02
+  pub record EndOk : Type 0 where
+    pub called : Admitted
+    pub empty : threadAt s t .len ≡ 0
+
+  pub end-ok : endStatus s m t ≡ 0 → EndOk
+  unfolding endStatus
+  end-ok e =
+      let a = admitted _ e in
+      let b = peel _ _ _ (a .1) in
+      record { called = a .0; empty = omega (arith, ltb-false) }
+
+  -- op 03
+  pub record MakeOk (q r : ℕ) : Type 0 where
+    pub called : Admitted
+    pub scope : 2 ≤ q
+    pub area : q < 64
+    pub unmade : areaAt s q .size ≡ 0
+    pub some : 0 < r
+    pub room : s .taken + r ≤ s .lengths .scratch
+
+  pub make-ok : (q r : ℕ) → makeStatus s m t q r ≡ 0 → MakeOk q r
+  unfolding makeStatus isMade
+  make-ok q r e =
+      let a = admitted _ e in
+      let b = peel _ _ _ (a .1) in
+      let c = peel _ _ _ (b .1) in
+      let d = peel _ _ _ (c .1) in
+      let f = or-false (ltb q 2) _ (b .0) in
+      let g = or-false (ltb q 2) _ (c .0) in
+      let h = or-false (eqb r 0) _ (d .0) in
+      let ne : r ≡ 0 → ⊥ = eqb-false r 0 (h .0) in
+      record {
+        called = a .0;
+        scope = omega (arith, ltb-false);
+        area = omega (arith, leb-false);
+        unmade = omega (arith, ltb-false);
+        some = omega arith;
+        room = omega (arith, ltb-false);
+      }
+
+  -- op 04
+  pub record EnterOk (q : ℕ) : Type 0 where
+    pub called : Admitted
+    pub area : q < 64
+    pub made : isMade s q ≡ true
+    pub room : threadAt s t .len < 32
+    pub parent : 2 ≤ q → 0 < areaAt s q .count → areaAt s q .parent ≡ innermost (stackAt s t)
+    pub generation : 2 ≤ q → areaAt s q .count ≡ 0 → areaAt s q .generation < lastGeneration
+
+  pub enter-ok : (q : ℕ) → enterStatus s m t q ≡ 0 → EnterOk q
+  unfolding enterStatus otherParent worn
+  enter-ok q e =
+      let a = admitted _ e in
+      let b = peel _ _ _ (a .1) in
+      let c = peel _ _ _ (b .1) in
+      let d = peel _ _ _ (c .1) in
+      let f = peel _ _ _ (d .1) in
+      let g = peel _ _ _ (f .1) in
+      let h = or-false (leb 64 q) _ (b .0) in
+      record {
+        called = a .0;
+        area = omega (arith, leb-false);
+        made = not-false (isMade s q) (h .1);
+        room = omega (arith, leb-false);
+        parent = λ k o. eqb-true (areaAt s q .parent) (innermost (stackAt s t))
+            (not-false (eqb (areaAt s q .parent) (innermost (stackAt s t)))
+            (and-false (ltb 0 (areaAt s q .count)) _ (and-false (leb 2 q) _ (f .0) (le-leb 2 q k)) (lt-ltb 0 (areaAt s q .count) o)));
+        generation = λ k o. let z = and-false (not (isOpen s q)) _ (and-false (leb 2 q) _ (g .0) (le-leb 2 q k)) (closed o) in omega (arith, leb-false);
+      }
+    where
+      closed : areaAt s q .count ≡ 0 → not (ltb 0 (areaAt s q .count)) ≡ true
+      closed o = rw (le-ltb 0 (areaAt s q .count) (omega arith)) refl
+
+  -- op 05
+  pub record ExitOk : Type 0 where
+    pub called : Admitted
+    pub some : 0 < threadAt s t .len
+
+  pub exit-ok : exitStatus s m t ≡ 0 → ExitOk
+  unfolding exitStatus
+  exit-ok e =
+      let a = admitted _ e in
+      let b = peel _ _ _ (a .1) in
+      record { called = a .0; some = omega (arith, eqb-false) }
+
+  -- op 06
+  pub record AllocateOk (slots words : ℕ) : Type 0 where
+    pub called : Admitted
+    pub room : suc (areaAt s (currentAt s t) .used + slots + words) ≤ areaAt s (currentAt s t) .size
+
+  pub allocate-ok : (slots words : ℕ) → allocateStatus s m t slots words ≡ 0 → AllocateOk slots words
+  unfolding allocateStatus
+  allocate-ok slots words e =
+      let a = admitted _ e in
+      let b = peel _ _ _ (a .1) in
+      let c = peel _ _ _ (b .1) in
+      record { called = a .0; room = omega (arith, ltb-false) }
+
+  -- every call on an object
+  pub record UseOk (p : ℕ) : Type 0 where
+    pub called : Admitted
+    pub object : live s m p ≡ true
+
+  pub use-ok : (p rest : ℕ) → useStatus s m t p rest ≡ 0 → UseOk p × (rest ≡ 0)
+  unfolding useStatus isObject
+  use-ok p rest e =
+      let a = admitted _ e in
+      let b = peel _ _ _ (a .1) in
+      let c = peel _ _ _ (b .1) in
+      let d = and-true (not (eqb p null)) (live s m p) (not-false (isObject s m p) (b .0)) in
+      (record { called = a .0; object = d .1 }, c .1)
+
+  -- ops 07 and 08 as far as the slot
+  pub record SlotOk (p q : ℕ) : Type 0 where
+    pub used : UseOk p
+    pub slot : q < slotsOf (headerAt s m p)
+
+  pub slot-ok : (p q rest : ℕ) → slotStatus s m t p q rest ≡ 0 → SlotOk p q × (rest ≡ 0)
+  unfolding slotStatus
+  slot-ok p q rest e =
+      let a = use-ok p _ e in
+      let b = peel _ _ _ (a .1) in
+      (record { used = a .0; slot = omega (arith, leb-false) }, b .1)
+
+  -- op 07
+  pub record StoreOk (p q r : ℕ) : Type 0 where
+    pub at : SlotOk p q
+    pub target : isReference s m r ≡ true
+    pub rule : eqb r null || mayRefer s (areaOf p) (areaOf r) ≡ true
+
+  pub store-ok : (p q r : ℕ) → storeStatus s m t p q r ≡ 0 → StoreOk p q r
+  unfolding storeStatus referenceStatus
+  store-ok p q r e =
+      let a = slot-ok p q _ e in
+      let b = peel _ _ _ (a .1) in
+      let c = peel _ _ _ (b .1) in
+      let d = peel _ _ _ (c .1) in
+      record { at = a .0; target = not-false (isReference s m r) (b .0); rule = not-false (eqb r null || mayRefer s (areaOf p) (areaOf r)) (d .0) }
+
+  -- ops 09 and 0a
+  pub record DataOk (p q : ℕ) : Type 0 where
+    pub used : UseOk p
+    pub index : q < dataOf (headerAt s m p)
+
+  pub data-ok : (p q : ℕ) → dataStatus s m t p q ≡ 0 → DataOk p q
+  unfolding dataStatus
+  data-ok p q e =
+      let a = use-ok p _ e in
+      let b = peel _ _ _ (a .1) in
+      record { used = a .0; index = omega (arith, leb-false) }

@@ -1,0 +1,222 @@
+-- The book follows the state: set-up leaves both alike, and so does every accepted call.
+-- Assumes nothing.
+use Prim.Native.Nat.{ℕ, suc, _+_, _≤_, _<_}
+use mathlib.Core.Bool.{Bool, true, false}
+use mathlib.Core.List.{List, [], _∷_}
+use mathlib.Core.Path.{_≡_, refl, sym, ap, _∙_}
+use mathlib.Core.Logic.{_≢_}
+use lib.ListN.{length, getD, set, replicate, length-replicate, getD-replicate, List·getD-eq-default}
+use lib.Dec.{eqb, leb, ltb}
+use native.Mathlib.Omega.{arith}
+use lib.Seq.{set-getD}
+use borrow.Author.Tests.{eqb-true, eqb-false, eq-eqb, ne-eqb, ltb-true, ltb-false, leb-true, leb-false, le-leb, lt-leb, lt-ltb}
+use Rattle.layout.specs.Choice.{cases}
+use Rattle.model.specs.declared.Area.{Area}
+use Rattle.model.specs.declared.Lengths.{Lengths}
+use Rattle.model.specs.State.{Thread, State, Memory, noThread, areaAt, threadAt, withArea, withThread, withTaken, stackOf, stackAt, innermost}
+use Rattle.model.specs.SetUp.{newThread, firstState}
+use Rattle.model.specs.Checks.{isStarted}
+use Rattle.model.specs.Threads.{ofKind, startState, endState}
+use Rattle.model.specs.Scopes.{madeArea, makeState, pushed, enterState, popped, exitState}
+use Rattle.model.specs.Objects.{currentAt, grown, allocateState}
+use Rattle.model.specs.Calls.{Call, start, end, make, enter, exit, allocate, store, load, write, read, view, viewed, callStatus, callState}
+use Rattle.model.specs.Book.{Object, Book, blank, rowOf, occurrences, total, bookStart, bookEnter, bookExit, bookAllocate, bookStep}
+use Rattle.model.specs.Invariant.{parentIn, stacksIn, Good}
+use Rattle.model.proofs.Accepted.{start-ok, end-ok, make-ok, MakeOk, enter-ok, EnterOk, exit-ok, ExitOk, allocate-ok, AllocateOk}
+use Rattle.model.proofs.Lists.{total-set, occ-same}
+use Rattle.model.proofs.Memory.{put-same, put-other}
+use Rattle.model.proofs.Sound.{Same}
+use Rattle.model.proofs.Parts.{thread-same, thread-other, stack-is, parts-of, number-kept}
+use Rattle.model.proofs.Stacks.{stack-none}
+use Rattle.model.proofs.Bounds.{by-area, current-area}
+use Rattle.model.proofs.KeepsThreads.{kind-stacks, idle-empty}
+use Rattle.model.proofs.KeepsEnter.{enter-thread, enter-thread-other, enter-low-area, enter-area-other, enter-open-area, enter-fresh-area, enter-stacks}
+use Rattle.model.proofs.KeepsExit.{exit-thread, exit-thread-other, exit-low-area, exit-area-other, by-top, top-area, exit-more-area, exit-last-area, pop-is, exit-stacks}
+use Rattle.model.proofs.Keeps.{first-stacks, first-area}
+
+-- ---- set-up
+
+first-thread : (h i : ℕ) (n : Lengths) (t : ℕ) → threadAt (firstState h i n) t .kind ≡ 0
+unfolding firstState
+first-thread h i n t = cases (ltb t 16)
+    (λ e. ap (λ (x : Thread). x .kind) (getD-replicate 16 t newThread noThread (ltb-true t 16 e)))
+    (λ e. ap (λ (x : Thread). x .kind) (List·getD-eq-default (replicate 16 newThread) noThread {n = t} (omega (arith, ltb-false t 16 e, length-replicate 16 newThread))))
+
+pub same-first : (h i : ℕ) (n : Lengths) → Same (firstState h i n) blank
+unfolding blank
+same-first h i n = record {
+  started = λ t. ap (ltb 0) (first-thread h i n t);
+  rows = first-stacks h i n;
+  parents = λ a. first-area h i n a .parent;
+}
+
+-- ---- threads
+
+module _ (s : State) (g : Good s) (b : Book) (m : Same s b) (t : ℕ) (l : t < 16) where
+  -- a push and a pop keep the kind
+  started-same : (r : State) → threadAt r t .kind ≡ threadAt s t .kind → ((u : ℕ) → u ≢ t → threadAt r u ≡ threadAt s u) → (u : ℕ) → isStarted r u ≡ b .started u
+  started-same r e f u = cases (eqb u t)
+      (λ d. rw (eqb-true u t d, e) (m .started t))
+      (λ d. rw (f u (eqb-false u t d)) (m .started u))
+
+  -- a thread with no entries becomes of another kind
+  same-kind : threadAt s t .len ≡ 0 → (k : ℕ) (on : Bool) → ltb 0 k ≡ on → Same (withThread s t (ofKind (threadAt s t) k)) (bookStart b t on)
+  unfolding bookStart
+  same-kind z k on e = record {
+    started = λ u. cases (eqb u t)
+        (λ d. rw (eqb-true u t d, thread-same s t (ofKind (threadAt s t) k) (omega (arith, g .threads .size)), put-same) e)
+        (λ d. rw (thread-other s t (ofKind (threadAt s t) k) u (eqb-false u t d), put-other (b .started) t on u (eqb-false u t d)) (m .started u));
+    rows = kind-stacks s t k ∙ m .rows ∙ sym (set-getD (b .rows) t []) ∙ ap (set (b .rows) t) empty;
+    parents = λ a. unfold withThread in m .parents a;
+  }
+    where
+      empty : rowOf b t ≡ []
+      empty = ap (λ (r : List (List ℕ)). getD r t []) (sym (m .rows)) ∙ stack-is s t ∙ stack-none (threadAt s t) z
+
+-- ---- enter
+
+module _ (s : State) (m : Memory) (t q : ℕ) (g : Good s) (ok : EnterOk s m t q) (b : Book) (e : Same s b) where
+  enter-started : (u : ℕ) → isStarted (enterState s t q) u ≡ b .started u
+  unfolding pushed
+  enter-started = started-same s g b e t (ok .called .thread) (enterState s t q) (ap (λ (h : Thread). h .kind) (enter-thread s m t q g ok)) (enter-thread-other s t q)
+
+  enter-rows : stacksIn (enterState s t q) ≡ set (b .rows) t (q ∷ rowOf b t)
+  enter-rows = enter-stacks s m t q g ok ∙ ap (λ (r : List (List ℕ)). set r t (q ∷ getD r t [])) (e .rows)
+
+  -- how many entries of q the book has
+  counted : 2 ≤ q → areaAt s q .count ≡ total q (b .rows)
+  counted h = g .nesting .counts q h (ok .area) ∙ ap (total q) (e .rows)
+
+  other-parents : (a : ℕ) → a ≢ q → parentIn (enterState s t q) a ≡ b .parents a
+  other-parents a ne = ap (λ (x : Area). x .parent) (enter-area-other s t q a ne) ∙ e .parents a
+
+  same-low : q < 2 → Same (enterState s t q) (bookEnter b t q)
+  unfolding bookEnter
+  same-low h = rw (lt-leb 2 q h) record { started = enter-started; rows = enter-rows; parents = λ a. ap (λ (x : Area). x .parent) (enter-low-area s t q a h) ∙ e .parents a }
+
+  same-open : 2 ≤ q → 0 < areaAt s q .count → Same (enterState s t q) (bookEnter b t q)
+  unfolding bookEnter
+  same-open h o = rw (le-leb 2 q h, ne-eqb (total q (b .rows)) 0 (λ z. omega (arith, counted h))) record {
+    started = enter-started;
+    rows = enter-rows;
+    parents = λ a. cases (eqb a q)
+        (λ d. rw (eqb-true a q d) (ap (λ (x : Area). x .parent) (enter-open-area s t q g (ok .area) h o) ∙ e .parents q))
+        (λ d. other-parents a (eqb-false a q d));
+  }
+
+  same-fresh : 2 ≤ q → areaAt s q .count ≡ 0 → Same (enterState s t q) (bookEnter b t q)
+  unfolding bookEnter
+  same-fresh h z = rw (le-leb 2 q h, eq-eqb (total q (b .rows)) 0 (omega (arith, counted h))) record {
+    started = enter-started;
+    rows = enter-rows;
+    parents = λ a. cases (eqb a q)
+        (λ d. rw (eqb-true a q d, put-same) (ap (λ (x : Area). x .parent) (enter-fresh-area s t q g (ok .area) h z) ∙ inner))
+        (λ d. rw (put-other (b .parents) q (innermost (rowOf b t)) a (eqb-false a q d)) (other-parents a (eqb-false a q d)));
+  }
+    where
+      inner : innermost (stackAt s t) ≡ innermost (rowOf b t)
+      inner = ap innermost (sym (stack-is s t) ∙ ap (λ (r : List (List ℕ)). getD r t []) (e .rows))
+
+  pub same-enter : Same (enterState s t q) (bookEnter b t q)
+  same-enter = by-area s q same-low same-fresh same-open
+
+-- ---- exit
+
+module _ (s : State) (m : Memory) (t : ℕ) (g : Good s) (ok : ExitOk s m t) (b : Book) (e : Same s b) where
+  -- the book's row has the core's top
+  pub row-top : rowOf b t ≡ currentAt s t ∷ stackOf (popped (threadAt s t))
+  row-top = ap (λ (r : List (List ℕ)). getD r t []) (sym (e .rows)) ∙ pop-is s m t g ok
+
+  exit-started : (u : ℕ) → isStarted (exitState s t) u ≡ b .started u
+  unfolding popped
+  exit-started = started-same s g b e t (ok .called .thread) (exitState s t) (ap (λ (h : Thread). h .kind) (exit-thread s m t g ok)) (exit-thread-other s t)
+
+  exit-rows : stacksIn (exitState s t) ≡ set (b .rows) t (stackOf (popped (threadAt s t)))
+  exit-rows = exit-stacks s m t g ok ∙ ap (λ (r : List (List ℕ)). set r t (stackOf (popped (threadAt s t)))) (e .rows)
+
+  -- how many entries of the top the book has then
+  pub left-count : 2 ≤ currentAt s t → suc (total (currentAt s t) (set (b .rows) t (stackOf (popped (threadAt s t))))) ≡ areaAt s (currentAt s t) .count
+  left-count h = omega (
+    arith,
+    g .nesting .counts (currentAt s t) h (top-area s m t g ok),
+    ap (total (currentAt s t)) (e .rows),
+    ap (occurrences (currentAt s t)) row-top,
+    occ-same (currentAt s t) (stackOf (popped (threadAt s t))),
+    total-set (currentAt s t) (b .rows) t (stackOf (popped (threadAt s t))) (omega (arith, g .nesting .size, ap length (e .rows), ok .called .thread)),
+  )
+
+  left-parents : (a : ℕ) → a ≢ currentAt s t → parentIn (exitState s t) a ≡ b .parents a
+  left-parents a ne = ap (λ (x : Area). x .parent) (exit-area-other s t a ne) ∙ e .parents a
+
+  exit-same-low : currentAt s t < 2 → Same (exitState s t) (bookExit b t)
+  unfolding bookExit
+  exit-same-low h = rw (row-top, lt-leb 2 (currentAt s t) h)
+      record { started = exit-started; rows = exit-rows; parents = λ a. ap (λ (x : Area). x .parent) (exit-low-area s t a h) ∙ e .parents a }
+
+  exit-same-last : 2 ≤ currentAt s t → areaAt s (currentAt s t) .count ≤ 1 → Same (exitState s t) (bookExit b t)
+  unfolding bookExit
+  exit-same-last h k = rw (row-top, le-leb 2 (currentAt s t) h, eq-eqb (total (currentAt s t) (set (b .rows) t (stackOf (popped (threadAt s t))))) 0 (omega (arith, left-count h))) record {
+    started = exit-started;
+    rows = exit-rows;
+    parents = λ a. cases (eqb a (currentAt s t))
+        (λ d. rw (eqb-true a (currentAt s t) d, put-same) (ap (λ (x : Area). x .parent) (exit-last-area s m t g ok h k)))
+        (λ d. rw (put-other (b .parents) (currentAt s t) 0 a (eqb-false a (currentAt s t) d)) (left-parents a (eqb-false a (currentAt s t) d)));
+  }
+
+  exit-same-more : 2 ≤ currentAt s t → 1 < areaAt s (currentAt s t) .count → Same (exitState s t) (bookExit b t)
+  unfolding bookExit
+  exit-same-more h k = rw (row-top, le-leb 2 (currentAt s t) h, ne-eqb (total (currentAt s t) (set (b .rows) t (stackOf (popped (threadAt s t))))) 0 (λ z. omega (arith, left-count h))) record {
+    started = exit-started;
+    rows = exit-rows;
+    parents = λ a. cases (eqb a (currentAt s t))
+        (λ d. rw (eqb-true a (currentAt s t) d) (ap (λ (x : Area). x .parent) (exit-more-area s m t g ok h k) ∙ e .parents (currentAt s t)))
+        (λ d. left-parents a (eqb-false a (currentAt s t) d));
+  }
+
+  pub same-exit : Same (exitState s t) (bookExit b t)
+  same-exit =
+      by-top s t
+      exit-same-low
+      (λ h. cases (leb (areaAt s (currentAt s t) .count) 1)
+      (λ o. exit-same-last h (leb-true (areaAt s (currentAt s t) .count) 1 o))
+      (λ o. exit-same-more h (leb-false (areaAt s (currentAt s t) .count) 1 o)))
+
+-- ---- words are given
+
+pub same-make : (s : State) (m : Memory) (t q r : ℕ) → Good s → MakeOk s m t q r → (b : Book) → Same s b → Same (makeState s q r) b
+unfolding makeState withTaken withArea
+same-make s m t q r g ok b e = record {
+  started = e .started;
+  rows = e .rows;
+  parents = λ a. number-kept s (parts-of s g) q (madeArea (areaAt s q) (s .taken) r) (ok .area) (λ (x : Area). x .parent) refl a ∙ e .parents a;
+}
+
+pub same-allocate : (s : State) (m : Memory) (t slots words : ℕ) → Good s → AllocateOk s m t slots words → (b : Book) (o : Object) → Same s b
+    → Same (allocateState s (currentAt s t) slots words) (bookAllocate b t o)
+unfolding allocateState withArea bookAllocate
+same-allocate s m t slots words g ok b o e = record {
+  started = e .started;
+  rows = e .rows;
+  parents = λ a. number-kept s (parts-of s g) (currentAt s t) (grown (areaAt s (currentAt s t)) (suc (areaAt s (currentAt s t) .used + slots + words)))
+      (current-area s g t (ok .called .thread)) (λ (x : Area). x .parent) refl a ∙ e .parents a;
+}
+
+-- ---- any accepted call
+
+pub same-call : (s : State) (m : Memory) (b : Book) (c : Call) (v : ℕ) → Good s → Same s b → callStatus s m c ≡ 0 → Same (callState s c) (bookStep b c v)
+same-call s m b (start t p) v g e z =
+    let ok = start-ok s m t p z in
+    unfold startState in same-kind s g b e t (ok .thread) (idle-empty s m t p g ok) p true (lt-ltb 0 p (ok .some))
+same-call s m b (end t) v g e z =
+    let ok = end-ok s m t z in
+    unfold endState in same-kind s g b e t (ok .called .thread) (ok .empty) 0 false refl
+same-call s m b (make t q r) v g e z = same-make s m t q r g (make-ok s m t q r z) b e
+same-call s m b (enter t q) v g e z = same-enter s m t q g (enter-ok s m t q z) b e
+same-call s m b (exit t) v g e z = same-exit s m t g (exit-ok s m t z) b e
+same-call s m b (allocate t q r) v g e z = same-allocate s m t q r g (allocate-ok s m t q r z) b _ e
+same-call s m b (store t p q r) v g e z = e
+same-call s m b (load t p q) v g e z = e
+same-call s m b (write t p q r) v g e z = e
+same-call s m b (read t p q) v g e z = e
+same-call s m b (view t p) v g e z = e
+same-call s m b (viewed t p) v g e z = e

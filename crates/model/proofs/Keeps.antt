@@ -1,0 +1,165 @@
+-- Set-up gives the invariant of the state, and every call keeps it, refused or not.
+-- Assumes nothing.
+use Prim.Native.Nat.{ℕ, zero, suc, _+_, _/_, _≤_, _<_}
+use mathlib.Core.Bool.{not}
+use mathlib.Core.List.{List, [], map}
+use mathlib.Core.Path.{_≡_, refl, sym, ap, _∙_}
+use lib.ListN.{length, replicate, length-replicate, getD-replicate, List·getD-eq-default}
+use lib.Dec.{eqb, ltb}
+use native.Mathlib.Omega.{arith}
+use borrow.Author.Tests.{eqb-true, ltb-true, ltb-false, not-false}
+use Rattle.layout.specs.Choice.{refuse, cases, peel}
+use Rattle.layout.specs.Stack.{down}
+use Rattle.model.specs.declared.Area.{Area}
+use Rattle.model.specs.declared.Lengths.{Lengths}
+use Rattle.model.specs.State.{State, Memory, noArea, noThread, areaAt, stackOf}
+use Rattle.model.specs.SetUp.{setUpStatus, newThread, firstState, setUpState}
+use Rattle.model.specs.Calls.{Call, start, end, make, enter, exit, allocate, store, load, write, read, view, viewed, callStatus, callState, outcomeOf}
+use Rattle.model.specs.Book.{occurrences, total}
+use Rattle.model.specs.Invariant.{scopesOf, ThreadGood, StandingGood, ScopeGood, Placed, stacksIn, Good}
+use Rattle.model.proofs.Accepted.{start-ok, end-ok, make-ok, enter-ok, exit-ok, allocate-ok}
+use Rattle.model.proofs.Lists.{each-replicate}
+use Rattle.model.proofs.KeepsThreads.{good-start, good-end}
+use Rattle.model.proofs.KeepsObjects.{good-make, good-allocate}
+use Rattle.model.proofs.KeepsEnter.{good-enter}
+use Rattle.model.proofs.KeepsExit.{good-exit}
+
+-- ---- set-up
+
+-- what is the same of all areas at set-up
+pub record Begins (x : Area) : Type 0 where
+  pub used : x .used ≡ 0
+  pub count : x .count ≡ 0
+  pub parent : x .parent ≡ 0
+  pub depth : x .depth ≡ 0
+
+-- no row has an entry
+none-on : (a : ℕ) → total a (replicate 16 []) ≡ 0
+unfolding total occurrences
+none-on a = refl
+
+module _ (h i : ℕ) (n : Lengths) where
+  -- an accepted set-up has passed these
+  pub record SetUpOk : Type 0 where
+    pub whole : h + i ≡ n .permanent
+    pub permanent : n .permanent ≤ 16384
+    pub scratch : n .scratch ≤ 16384
+    pub map : n .map ≡ (n .permanent + n .scratch + 63) / 64
+
+  pub set-up-ok : setUpStatus h i n ≡ 0 → SetUpOk
+  unfolding setUpStatus
+  set-up-ok e =
+      let a = peel (not (eqb (h + i) (n .permanent))) 0 _ e in
+      let b = peel (ltb 16384 (n .permanent)) 0 _ (a .1) in
+      let c = peel (ltb 16384 (n .scratch)) 0 _ (b .1) in
+      let d = peel (not (eqb (n .map) ((n .permanent + n .scratch + 63) / 64))) 0 0 (c .1) in
+      record {
+        whole = eqb-true (h + i) (n .permanent) (not-false (eqb (h + i) (n .permanent)) (a .0));
+        permanent = ltb-false 16384 (n .permanent) (b .0);
+        scratch = ltb-false 16384 (n .scratch) (c .0);
+        map = eqb-true (n .map) ((n .permanent + n .scratch + 63) / 64) (not-false (eqb (n .map) ((n .permanent + n .scratch + 63) / 64)) (d .0));
+      }
+
+  -- the stacks are empty
+  pub first-stacks : stacksIn (firstState h i n) ≡ replicate 16 []
+  unfolding firstState stackOf down
+  first-stacks = refl
+
+  -- no scope is made
+  pub first-scope : (a : ℕ) → 2 ≤ a → areaAt (firstState h i n) a ≡ noArea
+  unfolding firstState
+  first-scope zero k = absurd (omega arith)
+  first-scope (suc zero) k = absurd (omega arith)
+  first-scope (suc (suc a)) k = cases (ltb a 62)
+      (λ e. getD-replicate 62 a noArea noArea (ltb-true a 62 e))
+      (λ e. List·getD-eq-default (replicate 62 noArea) noArea {n = a} (omega (arith, ltb-false a 62 e, length-replicate 62 noArea)))
+
+  first-standing : (a : ℕ) → a < 2 → StandingGood (areaAt (firstState h i n) a)
+  unfolding firstState
+  first-standing zero k = record { generation = refl; count = refl; parent = refl; depth = refl }
+  first-standing (suc zero) k = record { generation = refl; count = refl; parent = refl; depth = refl }
+  first-standing (suc (suc a)) k = absurd (omega arith)
+
+  first-scopes : (a : ℕ) → 2 ≤ a → ScopeGood (areaAt (firstState h i n) a)
+  first-scopes a k = rw (first-scope a k)
+      record { generation = omega arith; made = λ o. absurd (omega arith); begun = λ o. absurd (omega arith); no-parent = λ z. refl; no-words = λ z. refl; no-depth = λ z. refl }
+
+  pub first-area : (a : ℕ) → Begins (areaAt (firstState h i n) a)
+  unfolding firstState
+  first-area zero = record { used = refl; count = refl; parent = refl; depth = refl }
+  first-area (suc zero) = record { used = refl; count = refl; parent = refl; depth = refl }
+  first-area (suc (suc a)) = rw (first-scope (suc (suc a)) (omega arith)) record { used = refl; count = refl; parent = refl; depth = refl }
+
+  first-placed : SetUpOk → Placed (firstState h i n)
+  unfolding firstState
+  first-placed ok = record {
+    permanent = ok .permanent;
+    scratch = ok .scratch;
+    map = ok .map;
+    heap = refl;
+    immortal = refl;
+    whole = ok .whole;
+    taken = omega arith;
+    below = λ a k l. rw (first-scope a k) (omega arith);
+    used = λ a l. omega (arith, first-area a .used);
+    apart = λ a c ha ka hc kc ne j k hj hk. absurd (omega (arith, ap (λ (x : Area). x .size) (first-scope a ha)));
+  }
+
+  pub good-first : setUpStatus h i n ≡ 0 → Good (firstState h i n)
+  unfolding firstState
+  good-first e = record {
+    areas = refl;
+    rows = each-replicate (λ (r : List ℕ). length r ≡ 32) [] 64 (replicate 32 0) refl;
+    threads = each-replicate ThreadGood noThread 16 newThread record {
+      kind = omega arith;
+      idle = λ z. refl;
+      room = refl;
+      inner-room = refl;
+      fits = omega arith;
+      areas = λ k l. absurd (omega arith);
+      inner-is = λ k l. absurd (omega arith);
+    };
+    standing = first-standing;
+    scopes = λ a k l. first-scopes a k;
+    placed = first-placed (set-up-ok e);
+    nesting = rw first-stacks record {
+      size = refl;
+      counts = λ a k l. first-area a .count ∙ sym (none-on a);
+      nested = λ t k. rw (getD-replicate {A = List ℕ} 16 t [] [] k) (unfold scopesOf in tt);
+    };
+  }
+
+-- a refused set-up gives the state of an accepted one
+pub good-set-up : (h i : ℕ) (n : Lengths) → Good (setUpState h i n)
+unfolding setUpState
+good-set-up h i n =
+    cases
+    (eqb (setUpStatus h i n) 0)
+    (λ e. rw e (good-first h i n (eqb-true (setUpStatus h i n) 0 e)))
+    (λ e. rw e (good-first 0 0 (record { permanent = 0; scratch = 0; map = 0 }) (unfold setUpStatus refuse in refl)))
+
+-- ---- calls
+
+-- an accepted call
+pub good-call : (s : State) (m : Memory) (c : Call) → Good s → callStatus s m c ≡ 0 → Good (callState s c)
+good-call s m (start t p) g e = good-start s m t p g (start-ok s m t p e)
+good-call s m (end t) g e = good-end s m t g (end-ok s m t e)
+good-call s m (make t q r) g e = good-make s m t q r g (make-ok s m t q r e)
+good-call s m (enter t q) g e = good-enter s m t q g (enter-ok s m t q e)
+good-call s m (exit t) g e = good-exit s m t g (exit-ok s m t e)
+good-call s m (allocate t q r) g e = good-allocate s m t q r g (allocate-ok s m t q r e)
+good-call s m (store t p q r) g e = g
+good-call s m (load t p q) g e = g
+good-call s m (write t p q r) g e = g
+good-call s m (read t p q) g e = g
+good-call s m (view t p) g e = g
+good-call s m (viewed t p) g e = g
+
+-- any call
+pub good-outcome : (s : State) (m : Memory) (c : Call) → Good s → Good (outcomeOf s m c .state)
+unfolding outcomeOf
+good-outcome s m c g =
+    cases
+    (eqb (callStatus s m c) 0)
+    (λ e. rw e (good-call s m c g (eqb-true (callStatus s m c) 0 e)))
+    (λ e. rw e g)

@@ -1,0 +1,68 @@
+-- Every accepted call keeps state, memory and book sound, and set-up gives a sound beginning: given that the state and the book stay good.
+-- Assumes nothing.
+use Prim.Native.Nat.{ℕ, zero, suc}
+use mathlib.Core.Bool.{true}
+use mathlib.Core.Path.{_≡_, refl}
+use lib.ListN.{length, replicate, length-replicate, getD-replicate}
+use lib.Dec.{ltb}
+use native.Mathlib.Omega.{arith}
+use borrow.Author.Tests.{ltb-true, ltb-false, eq-eqb}
+use Rattle.layout.specs.Choice.{cases}
+use Rattle.model.specs.State.{State, Memory, noArea}
+use Rattle.model.specs.SetUp.{lengthsOf, setUpStatus, firstState}
+use Rattle.model.specs.Checks.{fits}
+use Rattle.model.specs.Calls.{Call, start, end, make, enter, exit, allocate, store, load, write, read, view, viewed, callStatus, callValue, callState, callMemory}
+use Rattle.model.specs.Book.{Book, blank, bookStep}
+use Rattle.model.specs.Invariant.{Good}
+use Rattle.model.proofs.Accepted.{make-ok, enter-ok, exit-ok, allocate-ok, StoreOk, store-ok, DataOk, data-ok}
+use Rattle.model.proofs.Lists.{occ-nil}
+use Rattle.model.proofs.Sound.{Same, usedIn, Sound}
+use Rattle.model.proofs.MemoryScopes.{sound-start, sound-end, sound-make, sound-enter, sound-exit}
+use Rattle.model.proofs.MemoryWords.{sound-store, sound-write}
+use Rattle.model.proofs.MemoryObjects.{sound-allocate}
+
+pub sound-call : (s : State) (m : Memory) (b : Book) (c : Call) → Sound s m b → callStatus s m c ≡ 0 → Good (callState s c)
+    → Same (callState s c) (bookStep b c (callValue s m c)) → Sound (callState s c) (callMemory s m c) (bookStep b c (callValue s m c))
+sound-call s m b (start t p) o e g i = sound-start s m b o t p g i
+sound-call s m b (end t) o e g i = sound-end s m b o t g i
+sound-call s m b (make t q r) o e g i = sound-make s m b o t q r (make-ok s m t q r e) g i
+sound-call s m b (enter t q) o e g i = sound-enter s m b o t q (enter-ok s m t q e) g i
+sound-call s m b (exit t) o e g i = sound-exit s m b o t (exit-ok s m t e) g i
+sound-call s m b (allocate t q r) o e g i = sound-allocate s m b o t q r (allocate-ok s m t q r e) g i
+sound-call s m b (store t p q r) o e g i =
+    let k : StoreOk s m t p q r = store-ok s m t p q r e in
+    sound-store s m b o p (k .at .used .object) q (k .at .slot) r (k .target) (k .rule)
+sound-call s m b (load t p q) o e g i = o
+sound-call s m b (write t p q r) o e g i =
+    let k : DataOk s m t p q = data-ok s m t p q e in
+    sound-write s m b o p (k .used .object) q (k .index) r
+sound-call s m b (read t p q) o e g i = o
+sound-call s m b (view t p) o e g i = o
+sound-call s m b (viewed t p) o e g i = o
+
+-- ---- set-up
+
+-- no word is used
+first-used : (h i : ℕ) (m : Memory) (a : ℕ) → usedIn (firstState h i (lengthsOf m)) a ≡ 0
+unfolding firstState
+first-used h i m zero = refl
+first-used h i m (suc zero) = refl
+first-used h i m (suc (suc a)) = cases (ltb a 62)
+    (λ e. rw (getD-replicate 62 a noArea noArea (ltb-true a 62 e)))
+    (λ e. rw (lib.ListN.List·getD-eq-default (replicate 62 noArea) noArea {n = a} (omega (arith, ltb-false a 62 e, length-replicate 62 noArea))))
+
+first-fits : (h i : ℕ) (m : Memory) → fits (firstState h i (lengthsOf m)) m ≡ true
+unfolding firstState fits
+first-fits h i m = rw (eq-eqb (length (m .permanent)) (length (m .permanent)) refl, eq-eqb (length (m .scratch)) (length (m .scratch)) refl, eq-eqb (length (m .map)) (length (m .map)) refl)
+
+pub sound-first : (h i : ℕ) (m : Memory) → setUpStatus h i (lengthsOf m) ≡ 0 → Good (firstState h i (lengthsOf m))
+    → Same (firstState h i (lengthsOf m)) blank → Sound (firstState h i (lengthsOf m)) m blank
+unfolding blank
+sound-first h i m e g k = record {
+  good = g;
+  same = k;
+  lent = first-fits h i m;
+  memory = record { tiles = λ a l. first-used h i m a; closed = λ a l n z. refl };
+  dead = λ x p. absurd (omega (arith, occ-nil x));
+  above = λ a l. refl;
+}

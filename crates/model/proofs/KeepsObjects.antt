@@ -1,0 +1,97 @@
+-- Ops 03 and 06, which give words to a scope and to an object, keep the invariant.
+-- Assumes nothing.
+use Prim.Native.Nat.{ℕ, suc, _+_, _≤_, _<_}
+use mathlib.Core.Path.{_≡_, refl, sym, ap, _∙_}
+use mathlib.Core.Logic.{_≢_}
+use native.Mathlib.Omega.{arith}
+use Rattle.model.specs.declared.Area.{Area}
+use Rattle.model.specs.State.{State, Memory, areaAt, withArea, withTaken, displayAt}
+use Rattle.model.specs.Scopes.{madeArea, makeState}
+use Rattle.model.specs.Objects.{currentAt, grown, allocateState}
+use Rattle.model.specs.Invariant.{StandingGood, ScopeGood, Placed, Good}
+use Rattle.model.proofs.Accepted.{MakeOk, AllocateOk}
+use Rattle.model.proofs.Parts.{area-other, parts-of, good-of, area-by, parts-made, parts-area, nesting-area}
+use Rattle.model.proofs.Bounds.{current-area, current-open}
+
+-- ---- op 03
+
+-- two areas that share no word
+abbrev Apart : Area → Area → Type 0
+Apart x y = (j k : ℕ) → j < x .size → k < y .size → x .start + j ≢ y .start + k
+
+module _ (s : State) (m : Memory) (t q r : ℕ) (g : Good s) (ok : MakeOk s m t q r) where
+  made : Area
+  made = madeArea (areaAt s q) (s .taken) r
+
+  make-placed : Placed (makeState s q r)
+  unfolding makeState withTaken withArea made
+  make-placed = record {
+    permanent = g .placed .permanent;
+    scratch = g .placed .scratch;
+    map = g .placed .map;
+    heap = ap (λ (x : Area). x .start) heap ∙ g .placed .heap;
+    immortal = ap (λ (x : Area). x .start) immortal ∙ g .placed .immortal ∙ sym (ap (λ (x : Area). x .size) heap);
+    whole = omega (arith, g .placed .whole, ap (λ (x : Area). x .size) heap, ap (λ (x : Area). x .size) immortal);
+    taken = ok .room;
+    below = λ a h k. each (λ (x : Area). x .start + x .size ≤ s .taken + r) a (λ e. omega arith) (λ ne. omega (arith, g .placed .below a h k));
+    used = λ a k. each (λ (x : Area). x .used ≤ x .size) a (λ e. omega (arith, g .placed .used q (ok .area), ok .unmade)) (λ ne. g .placed .used a k);
+    apart = λ a c ha ka hc kc ne. each (λ (x : Area). Apart x (areaAt (withArea s q made) c)) a
+        (λ e. each (Apart made) c (λ d. absurd (ne (e ∙ sym d))) (λ nd j k hj hk d. omega (arith, g .placed .below c hc kc)))
+        (λ nq. each (Apart (areaAt s a)) c (λ d j k hj hk z. omega (arith, g .placed .below a ha ka)) (λ nd. g .placed .apart a c ha ka hc kc ne));
+  }
+    where
+      each : (P : Area → Type 0) (a : ℕ) → (a ≡ q → P made) → (a ≢ q → P (areaAt s a)) → P (areaAt (withArea s q made) a)
+      each = area-by s (parts-of s g) q made (ok .area)
+
+      heap : areaAt (withArea s q made) 0 ≡ areaAt s 0
+      heap = area-other s q made 0 (λ e. omega (arith, ok .scope))
+
+      immortal : areaAt (withArea s q made) 1 ≡ areaAt s 1
+      immortal = area-other s q made 1 (λ e. omega (arith, ok .scope))
+
+  pub good-make : Good (makeState s q r)
+  unfolding makeState withTaken withArea made displayAt
+  good-make = good-of (makeState s q r)
+      (parts-made s (parts-of s g) q made (ok .area) (λ h. absurd (omega (arith, ok .scope))) (λ h. scope) (s .taken + r) make-placed)
+      (nesting-area s (parts-of s g) q made (ok .area) refl refl refl (g .nesting))
+    where
+      old : ScopeGood (areaAt s q)
+      old = g .scopes q (ok .scope) (ok .area)
+
+      scope : ScopeGood made
+      scope = record { generation = old .generation; made = λ o. ok .some; begun = old .begun; no-parent = old .no-parent; no-words = old .no-words; no-depth = old .no-depth }
+
+-- ---- op 06
+
+pub good-allocate : (s : State) (m : Memory) (t slots words : ℕ) → Good s → AllocateOk s m t slots words → Good (allocateState s (currentAt s t) slots words)
+unfolding allocateState
+good-allocate s m t slots words g ok = good-of (withArea s a x)
+    (parts-area s (parts-of s g) a x here standing scope (record { start = refl; size = refl; used = ok .room }))
+    (nesting-area s (parts-of s g) a x here refl refl refl (g .nesting))
+  where
+    a : ℕ
+    a = currentAt s t
+
+    x : Area
+    x = grown (areaAt s a) (suc (areaAt s a .used + slots + words))
+
+    here : a < 64
+    here = current-area s g t (ok .called .thread)
+
+    standing : a < 2 → StandingGood x
+    standing h =
+        let old : StandingGood (areaAt s a) = g .standing a h in
+        record { generation = old .generation; count = old .count; parent = old .parent; depth = old .depth }
+
+    -- the current area is open, so it may have words
+    scope : 2 ≤ a → ScopeGood x
+    scope h =
+        let old : ScopeGood (areaAt s a) = g .scopes a h here in
+        record {
+          generation = old .generation;
+          made = old .made;
+          begun = old .begun;
+          no-parent = old .no-parent;
+          no-words = λ z. absurd (omega (arith, current-open s g t (ok .called .thread) h));
+          no-depth = old .no-depth;
+        }

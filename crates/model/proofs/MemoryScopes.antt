@@ -1,0 +1,151 @@
+-- Starting and ending a thread, making a scope, entering and leaving an area keep a sound memory.
+-- Assumes nothing.
+use Prim.Native.Nat.{ℕ, suc, pred, _≤_, _<_}
+use mathlib.Core.Bool.{true, false}
+use mathlib.Core.List.{List, [], _∷_, _++_}
+use mathlib.Core.Path.{_≡_, refl, sym, ap, _∙_}
+use lib.ListN.{set}
+use lib.Dec.{leb, ltb}
+use native.Mathlib.Omega.{arith}
+use borrow.Author.Tests.{ltb-true, ltb-false, leb-true, leb-false, le-leb, lt-leb, eq-eqb, ne-eqb}
+use Rattle.layout.specs.Choice.{cases}
+use Rattle.model.specs.declared.Area.{Area}
+use Rattle.model.specs.State.{State, Memory, areaAt, threadAt, stackOf, stackAt, current, innermost}
+use Rattle.model.specs.Threads.{startState, endState}
+use Rattle.model.specs.Scopes.{madeArea, makeState, reentered, opened, enterState, left, popped, exitState}
+use Rattle.model.specs.Book.{Book, rowOf, total, handles, putAt, isScopeOnNone, bookStart, bookEnter, bookExit}
+use Rattle.model.specs.Invariant.{countIn, Good}
+use Rattle.model.proofs.Accepted.{MakeOk, EnterOk, ExitOk}
+use Rattle.model.proofs.Sound.{Same, Sound}
+use Rattle.model.proofs.Bounds.{current-area}
+use Rattle.model.proofs.Agrees.{row-top, left-count}
+use Rattle.model.proofs.Alters.{Stays, Alters, start-stays, end-stays, enter-low, exit-low, make-alters, make-rows, open-alters, open-rows, fresh-alters, left-alters, left-rows}
+use Rattle.model.proofs.MemoryKept.{Moved, moved-same, still-same, moved-all, still-all, count-all, sound-still, sound-opens, sound-shuts}
+
+module _ (s : State) (m : Memory) (b : Book) (o : Sound s m b) where
+  -- no area is touched, and no object
+  stays-sound : (n : State) (c : Book) → Good n → Same n c → Stays s n → c .objects ≡ b .objects → c .gone ≡ b .gone → Sound n m c
+  stays-sound n c g i k eo eg = sound-still s m b o n c g i (k .lengths) (λ a. moved-same (k .all a)) eo eg
+      (λ a. still-same (k .all a)) (λ a z. sym (ap (λ (x : Area). x .count) (k .all a .area)) ∙ z)
+
+  pub sound-start : (t p : ℕ) → Good (startState s t p) → Same (startState s t p) (bookStart b t true) → Sound (startState s t p) m (bookStart b t true)
+  unfolding bookStart
+  sound-start t p g i = stays-sound (startState s t p) (bookStart b t true) g i (start-stays s t p) refl refl
+
+  pub sound-end : (t : ℕ) → Good (endState s t) → Same (endState s t) (bookStart b t false) → Sound (endState s t) m (bookStart b t false)
+  unfolding bookStart
+  sound-end t g i = stays-sound (endState s t) (bookStart b t false) g i (end-stays s t) refl refl
+
+  -- an area of no words has none used, so it may lie elsewhere
+  pub sound-make : (t q r : ℕ) → MakeOk s m t q r → Good (makeState s q r) → Same (makeState s q r) b → Sound (makeState s q r) m b
+  sound-make t q r k g i = sound-still s m b o (makeState s q r) b g i (to .lengths) (moved-all to moves) refl refl
+      (still-all to (make-rows s (o .good .areas) q (k .area) r) refl refl refl) (count-all to (λ z. z))
+    where
+      to : Alters s (makeState s q r) q (madeArea (areaAt s q) (s .taken) r)
+      to = make-alters s (o .good .areas) q (k .area) r
+
+      moves : Moved (areaAt s q) (madeArea (areaAt s q) (s .taken) r)
+      moves = record {
+        start = λ p. absurd (omega (arith, k .unmade, o .good .placed .used q (k .area)));
+        later = omega arith;
+        fresh = λ p z. absurd (omega arith);
+      }
+
+  module _ (t q : ℕ) (k : EnterOk s m t q) (g : Good (enterState s t q)) (i : Same (enterState s t q) (bookEnter b t q)) where
+    objects-same : bookEnter b t q .objects ≡ b .objects
+    unfolding bookEnter
+    objects-same = refl
+
+    gone-same : bookEnter b t q .gone ≡ b .gone
+    unfolding bookEnter
+    gone-same = refl
+
+    sound-open : 2 ≤ q → 0 < countIn s q → Sound (enterState s t q) m (bookEnter b t q)
+    sound-open h c = sound-still s m b o (enterState s t q) (bookEnter b t q) g i (to .lengths)
+        (moved-all to record { start = λ p. refl; later = omega arith; fresh = λ p z. absurd (omega arith) }) objects-same gone-same
+        (still-all to (open-rows s (o .good .areas) q (k .area) t h c) refl refl refl) (count-all to (λ z. absurd (omega arith)))
+      where
+        to : Alters s (enterState s t q) q (reentered (areaAt s q))
+        to = open-alters s (o .good .areas) q (k .area) t h c
+
+    sound-fresh : 2 ≤ q → countIn s q ≡ 0 → Sound (enterState s t q) m (bookEnter b t q)
+    sound-fresh h c = sound-opens s m b o (enterState s t q) (bookEnter b t q) g i (to .lengths)
+        (moved-all to record { start = λ p. refl; later = omega arith; fresh = λ p z. omega arith }) objects-same gone-same
+        q h (k .area) c (ap (λ (x : Area). x .used) (to .here)) (to .others)
+      where
+        to : Alters s (enterState s t q) q (opened (areaAt s q) (innermost (stackAt s t)) (areaAt s (innermost (stackAt s t)) .depth))
+        to = fresh-alters s (o .good .areas) q (k .area) t h c
+
+    pub sound-enter : Sound (enterState s t q) m (bookEnter b t q)
+    sound-enter = cases (leb 2 q)
+        (λ d. cases (ltb 0 (countIn s q))
+        (λ c. sound-open (leb-true 2 q d) (ltb-true 0 (countIn s q) c))
+        (λ c. sound-fresh (leb-true 2 q d) (omega (arith, ltb-false 0 (countIn s q) c))))
+        (λ d. stays-sound (enterState s t q) (bookEnter b t q) g i (enter-low s t q (leb-false 2 q d)) objects-same gone-same)
+
+  module _ (t : ℕ) (k : ExitOk s m t) (g : Good (exitState s t)) (i : Same (exitState s t) (bookExit b t)) where
+    abbrev top : ℕ
+    top = current (stackAt s t)
+
+    abbrev rest : List (List ℕ)
+    rest = set (b .rows) t (stackOf (popped (threadAt s t)))
+
+    row : rowOf b t ≡ top ∷ stackOf (popped (threadAt s t))
+    row = row-top s m t (o .good) k b (o .same)
+
+    area : top < 64
+    area = current-area s (o .good) t (k .called .thread)
+
+    -- what the book does where the top is on no row then, and where it is
+    book-drops : isScopeOnNone top rest ≡ true → (bookExit b t .objects ≡ putAt (b .objects) top []) × (bookExit b t .gone ≡ handles (b .objects top) ++ b .gone)
+    unfolding bookExit
+    book-drops e = (rw (row, e), rw (row, e))
+
+    book-keeps : isScopeOnNone top rest ≡ false → (bookExit b t .objects ≡ b .objects) × (bookExit b t .gone ≡ b .gone)
+    unfolding bookExit
+    book-keeps e = (rw (row, e), rw (row, e))
+
+    sound-low : top < 2 → Sound (exitState s t) m (bookExit b t)
+    sound-low h =
+        let y = book-keeps (rw (lt-leb 2 top h)) in
+        stays-sound (exitState s t) (bookExit b t) g i (exit-low s t h) (y .0) (y .1)
+
+    module _ (h : 2 ≤ top) where
+      count : suc (total top rest) ≡ countIn s top
+      count = left-count s m t (o .good) k b (o .same) h
+
+      to : Alters s (exitState s t) top (left (areaAt s top))
+      to = left-alters s (o .good .areas) t h area
+
+      moves : (a : ℕ) → Moved (areaAt s a) (areaAt (exitState s t) a)
+      moves = moved-all to record { start = λ p. refl; later = omega arith; fresh = λ p z. absurd (omega (arith, count)) }
+
+      -- other entries are left
+      sound-more : 1 < countIn s top → Sound (exitState s t) m (bookExit b t)
+      sound-more c =
+          let y = book-keeps (rw (le-leb 2 top h) (ne-eqb (total top rest) 0 (λ z. omega (arith, count)))) in
+          sound-still s m b o (exitState s t) (bookExit b t) g i (to .lengths) moves (y .0) (y .1)
+          (still-all to (left-rows s (o .good .areas) t h area) (rw (lt-leb (countIn s top) 1 c)) refl (rw (lt-leb (countIn s top) 1 c)))
+          (count-all to (λ z. absurd (more z)))
+        where
+          more : pred (countIn s top) ≡ 0 → ⊥
+          more z = omega arith
+
+      -- the last entry is left
+      sound-last : countIn s top ≤ 1 → Sound (exitState s t) m (bookExit b t)
+      sound-last c =
+          let y = book-drops (rw (le-leb 2 top h) (eq-eqb (total top rest) 0 (omega (arith, count)))) in
+          sound-shuts s m b o (exitState s t) (bookExit b t) g i (to .lengths) moves top h area
+          (ap (λ (x : Area). x .count) (to .here) ∙ none)
+          (ap (λ (x : Area). x .used) (to .here) ∙ rw (le-leb (countIn s top) 1 c))
+          (to .others) (y .0) (y .1)
+        where
+          none : pred (countIn s top) ≡ 0
+          none = omega arith
+
+    pub sound-exit : Sound (exitState s t) m (bookExit b t)
+    sound-exit = cases (leb 2 top)
+        (λ d. cases (leb (countIn s top) 1)
+        (λ c. sound-last (leb-true 2 top d) (leb-true (countIn s top) 1 c))
+        (λ c. sound-more (leb-true 2 top d) (leb-false (countIn s top) 1 c)))
+        (λ d. sound-low (leb-false 2 top d))

@@ -1,0 +1,191 @@
+-- What is read of a state after a part of it is replaced, and the invariant without its nesting.
+-- Assumes nothing.
+use Prim.Native.Nat.{ℕ, _≤_, _<_}
+use mathlib.Core.List.{List, [], map}
+use mathlib.Core.Path.{_≡_, refl, sym, ap, ap₂, _∙_}
+use mathlib.Core.Logic.{_≢_}
+use lib.ListN.{length, getD, length-set, List·getD-map}
+use lib.Dec.{eqb}
+use native.Mathlib.Omega.{arith}
+use lib.Seq.{getD-set-same, getD-set-other}
+use borrow.Author.Tests.{eqb-true, eqb-false}
+use Rattle.layout.specs.Choice.{cases}
+use Rattle.layout.specs.Stack.{down}
+use Rattle.model.specs.declared.Area.{Area}
+use Rattle.model.specs.declared.Lengths.{Lengths}
+use Rattle.model.specs.State.{Thread, State, noArea, noThread, areaAt, rowAt, threadAt, withArea, withRow, withThread, withTaken, stackOf, stackAt, innermost, current, displayAt}
+use Rattle.model.specs.Book.{total}
+use Rattle.model.specs.Invariant.{scopesOf, Nesting, ThreadGood, Each, StandingGood, ScopeGood, Placed, parentIn, countIn, stacksIn, Good}
+use Rattle.model.proofs.Lists.{innermost-is, each-set}
+use Rattle.model.proofs.Nesting.{nested-frame}
+
+-- ---- reads after a store
+
+module _ (s : State) where
+  -- area q is x after the store, and every other is as it was
+  pub area-same : (q : ℕ) (x : Area) → q < length (s .areas) → areaAt (withArea s q x) q ≡ x
+  unfolding withArea
+  area-same q x h = getD-set-same (s .areas) q x noArea h
+
+  pub area-other : (q : ℕ) (x : Area) (a : ℕ) → a ≢ q → areaAt (withArea s q x) a ≡ areaAt s a
+  unfolding withArea
+  area-other q x a ne = getD-set-other (s .areas) q a x noArea ne
+
+  -- the same of rows
+  pub row-same : (q : ℕ) (r : List ℕ) → q < length (s .rows) → rowAt (withRow s q r) q ≡ r
+  unfolding withRow
+  row-same q r h = getD-set-same (s .rows) q r [] h
+
+  pub row-other : (q : ℕ) (r : List ℕ) (a : ℕ) → a ≢ q → rowAt (withRow s q r) a ≡ rowAt s a
+  unfolding withRow
+  row-other q r a ne = getD-set-other (s .rows) q a r [] ne
+
+  -- the same of threads
+  pub thread-same : (t : ℕ) (h : Thread) → t < length (s .threads) → threadAt (withThread s t h) t ≡ h
+  unfolding withThread
+  thread-same t h k = getD-set-same (s .threads) t h noThread k
+
+  pub thread-other : (t : ℕ) (h : Thread) (u : ℕ) → u ≢ t → threadAt (withThread s t h) u ≡ threadAt s u
+  unfolding withThread
+  thread-other t h u ne = getD-set-other (s .threads) t u h noThread ne
+
+  -- a row of the stacks is a thread's stack
+  pub stack-is : (t : ℕ) → getD (stacksIn s) t [] ≡ stackAt s t
+  unfolding stackOf down
+  stack-is t = List·getD-map stackOf (s .threads) t noThread
+
+  -- the innermost scope of a stack is the first of its scopes
+  pub inner-is : (t : ℕ) → innermost (stackAt s t) ≡ current (scopesOf (getD (stacksIn s) t []))
+  inner-is t = rw stack-is (innermost-is (stackAt s t))
+
+  -- a display goes by the area's depth and its row
+  pub display-same : (r : State) (a : ℕ) → areaAt r a .depth ≡ areaAt s a .depth → rowAt r a ≡ rowAt s a → displayAt r a ≡ displayAt s a
+  unfolding displayAt
+  display-same r a e d = ap₂ (λ (l : List ℕ) (n : ℕ). down l n) d e
+
+  -- what is seen of an area that is as it was, with its row
+  pub seen : (r : State) (a : ℕ) → areaAt r a ≡ areaAt s a → rowAt r a ≡ rowAt s a → (parentIn r a ≡ parentIn s a) × (displayAt r a ≡ displayAt s a)
+  seen r a e d = (ap (λ (x : Area). x .parent) e, display-same r a (ap (λ (x : Area). x .depth) e) d)
+
+-- a nesting of which nothing that is seen has changed
+pub nesting-same : {par par′ : ℕ → ℕ} {dis dis′ : ℕ → List ℕ} {cnt cnt′ : ℕ → ℕ} {rows rows′ : List (List ℕ)} → Nesting par dis cnt rows
+    → ((a : ℕ) → (par′ a ≡ par a) × (dis′ a ≡ dis a)) → ((a : ℕ) → cnt′ a ≡ cnt a) → rows′ ≡ rows → Nesting par′ dis′ cnt′ rows′
+nesting-same {par} {par′} {dis} {dis′} {rows = rows} v f c e = record {
+  size = ap length e ∙ v .size;
+  counts = λ a h k. c a ∙ v .counts a h k ∙ ap (total a) (sym e);
+  nested = λ t h. rw e (nested-frame par par′ dis dis′ (scopesOf (getD rows t [])) (λ a x. f a) (v .nested t h));
+}
+
+-- ---- the invariant without its nesting
+
+pub record Parts (s : State) : Type 0 where
+  pub areas : length (s .areas) ≡ 64
+  pub rows : Each (λ (r : List ℕ). length r ≡ 32) [] 64 (s .rows)
+  pub threads : Each ThreadGood noThread 16 (s .threads)
+  pub standing : (a : ℕ) → a < 2 → StandingGood (areaAt s a)
+  pub scopes : (a : ℕ) → 2 ≤ a → a < 64 → ScopeGood (areaAt s a)
+  pub placed : Placed s
+
+pub parts-of : (s : State) → Good s → Parts s
+parts-of s g = record { areas = g .areas; rows = g .rows; threads = g .threads; standing = g .standing; scopes = g .scopes; placed = g .placed }
+
+pub good-of : (s : State) → Parts s → Nesting (parentIn s) (displayAt s) (countIn s) (stacksIn s) → Good s
+good-of s p v = record { areas = p .areas; rows = p .rows; threads = p .threads; standing = p .standing; scopes = p .scopes; placed = p .placed; nesting = v }
+
+-- an area that lies where it lay, with no more used words than it has
+pub record Stays (x y : Area) : Type 0 where
+  pub start : y .start ≡ x .start
+  pub size : y .size ≡ x .size
+  pub used : y .used ≤ y .size
+
+-- areas that lie where they lay
+pub placed-same : (s r : State) → Placed s → r .lengths ≡ s .lengths → r .taken ≡ s .taken → ((a : ℕ) → a < 64 → Stays (areaAt s a) (areaAt r a)) → Placed r
+placed-same s r p l n f =
+    let e0 : r .lengths .permanent ≡ s .lengths .permanent = ap (λ (x : Lengths). x .permanent) l in
+    let e1 : r .lengths .scratch ≡ s .lengths .scratch = ap (λ (x : Lengths). x .scratch) l in
+    let e2 : r .lengths .map ≡ s .lengths .map = ap (λ (x : Lengths). x .map) l in
+    let heap : Stays (areaAt s 0) (areaAt r 0) = f 0 (omega arith) in
+    let immortal : Stays (areaAt s 1) (areaAt r 1) = f 1 (omega arith) in
+    record {
+      permanent = omega (arith, p .permanent);
+      scratch = omega (arith, p .scratch);
+      map = rw (e0, e1) (e2 ∙ p .map);
+      heap = heap .start ∙ p .heap;
+      immortal = immortal .start ∙ p .immortal ∙ sym (heap .size);
+      whole = omega (arith, p .whole);
+      taken = omega (arith, p .taken);
+      below = λ a h k. omega (arith, p .below a h k, f a k .start, f a k .size);
+      used = λ a k. f a k .used;
+      apart = λ a c ha ka hc kc ne j k hj hk. rw (f a ka .start, f c kc .start)
+          (p .apart a c ha ka hc kc ne j k (omega (arith, f a ka .size)) (omega (arith, f c kc .size)));
+    }
+
+module _ (s : State) (p : Parts s) where
+  same : (a : ℕ) → a < 64 → Stays (areaAt s a) (areaAt s a)
+  same a k = record { start = refl; size = refl; used = p .placed .used a k }
+
+  -- a thread is replaced
+  pub parts-thread : (t : ℕ) (h : Thread) → ThreadGood h → Parts (withThread s t h)
+  unfolding withThread
+  parts-thread t h o = record {
+    areas = p .areas;
+    rows = p .rows;
+    threads = each-set ThreadGood noThread 16 (s .threads) t h (p .threads) o;
+    standing = p .standing;
+    scopes = p .scopes;
+    placed = placed-same s (withThread s t h) (p .placed) refl refl same;
+  }
+
+  -- a row is replaced
+  pub parts-row : (q : ℕ) (r : List ℕ) → length r ≡ 32 → Parts (withRow s q r)
+  unfolding withRow
+  parts-row q r o = record {
+    areas = p .areas;
+    rows = each-set (λ (r : List ℕ). length r ≡ 32) [] 64 (s .rows) q r (p .rows) o;
+    threads = p .threads;
+    standing = p .standing;
+    scopes = p .scopes;
+    placed = placed-same s (withRow s q r) (p .placed) refl refl same;
+  }
+
+  module _ (q : ℕ) (x : Area) (k : q < 64) where
+    -- what holds of x and of every other area
+    pub area-by : (P : Area → Type 0) (a : ℕ) → (a ≡ q → P x) → (a ≢ q → P (areaAt s a)) → P (areaAt (withArea s q x) a)
+    area-by P a o f = cases (eqb a q)
+        (λ e. rw (eqb-true a q e, area-same s q x (omega (arith, p .areas))) (o (eqb-true a q e)))
+        (λ e. rw (area-other s q x a (eqb-false a q e)) (f (eqb-false a q e)))
+
+    -- an area is replaced, and how many scratch words are taken
+    pub parts-made : (q < 2 → StandingGood x) → (2 ≤ q → ScopeGood x) → (n : ℕ) → Placed (withTaken (withArea s q x) n) → Parts (withTaken (withArea s q x) n)
+    unfolding withTaken withArea
+    parts-made low high n o = record {
+      areas = length-set (s .areas) q x ∙ p .areas;
+      rows = p .rows;
+      threads = p .threads;
+      standing = λ a h. area-by StandingGood a (λ e. low (omega arith)) (λ ne. p .standing a h);
+      scopes = λ a h l. area-by ScopeGood a (λ e. high (omega arith)) (λ ne. p .scopes a h l);
+      placed = o;
+    }
+
+    -- an area is replaced by one that lies where it lay
+    pub parts-area : (q < 2 → StandingGood x) → (2 ≤ q → ScopeGood x) → Stays (areaAt s q) x → Parts (withArea s q x)
+    unfolding withTaken withArea
+    parts-area low high o =
+        parts-made low high (s .taken)
+        (placed-same s (withArea s q x) (p .placed) refl refl
+        (λ a l. area-by (Stays (areaAt s a)) a (λ e. rw e o) (λ ne. same a l)))
+
+    -- a number of an area that is no other in x
+    pub number-kept : (f : Area → ℕ) → f x ≡ f (areaAt s q) → (a : ℕ) → f (areaAt (withArea s q x) a) ≡ f (areaAt s a)
+    number-kept f o a = area-by (λ (y : Area). f y ≡ f (areaAt s a)) a (λ e. rw e o) (λ ne. refl)
+
+    -- where x has the parent, depth and count that the area had
+    pub nesting-area : x .parent ≡ areaAt s q .parent → x .depth ≡ areaAt s q .depth → x .count ≡ areaAt s q .count
+        → Nesting (parentIn s) (displayAt s) (countIn s) (stacksIn s)
+        → Nesting (parentIn (withArea s q x)) (displayAt (withArea s q x)) (countIn (withArea s q x)) (stacksIn (withArea s q x))
+    unfolding displayAt withArea
+    nesting-area e d c v =
+        nesting-same v
+        (λ a. (number-kept (λ (y : Area). y .parent) e a, ap (down (rowAt s a)) (number-kept (λ (y : Area). y .depth) d a)))
+        (number-kept (λ (y : Area). y .count) c)
+        refl

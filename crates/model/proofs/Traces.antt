@@ -1,0 +1,157 @@
+-- What a trace tells beside the book: where an object comes from, that what is gone stays gone, that an area with objects is open.
+-- Assumes nothing.
+use Prim.Native.Nat.{ℕ, _+_, _≤_, _<_}
+use mathlib.Core.Bool.{false}
+use mathlib.Core.List.{List, [], _∷_, _++_}
+use mathlib.Core.Path.{_≡_, refl, sym, ap}
+use mathlib.Core.Logic.{_⊎_, inl, inr, ⊎-elim}
+use lib.Dec.{eqb, ltb}
+use lib.ListN.{length, set}
+use native.Mathlib.Omega.{arith}
+use borrow.Author.Tests.{eqb-true, eqb-false, ltb-true, ltb-false}
+use Rattle.layout.specs.Choice.{cases}
+use Rattle.model.specs.State.{State, Memory, current, isOpen}
+use Rattle.model.specs.Calls.{Call, start, end, make, enter, exit, allocate, store, load, write, read, view, viewed}
+use Rattle.model.specs.Run.{Element, Line, World, step, run}
+use Rattle.model.specs.Book.{Object, Book, rowOf, putAt, below, occurrences, handles, isScopeOnNone, bookStart, bookEnter, bookExit, bookAllocate, bookStep, bookLine, bookOf}
+use Rattle.model.specs.Claims.{Open, In, Among, Allocates, made, stays, On}
+use Rattle.model.specs.Invariant.{countIn}
+use Rattle.model.proofs.Lists.{occ-same, occ-other}
+use Rattle.model.proofs.Memory.{put-same, put-other}
+use Rattle.model.proofs.Tiles.{in-some}
+use Rattle.model.proofs.Sound.{Sound}
+use Rattle.model.proofs.NestingClaims.{opens}
+use Rattle.model.proofs.MemoryClaims.{no-objects-above}
+use Rattle.model.proofs.Outcomes.{accepted}
+
+-- ---- what the trace tells beside the book
+
+-- what is put at one area is seen there and nowhere else
+put-in : (f : ℕ → List Object) (q : ℕ) (v : List Object) (a : ℕ) (x : Object) → In x (putAt f q v a) → (In x v × (a ≡ q)) ⊎ In x (f a)
+put-in f q v a x i =
+    cases (eqb a q)
+    (λ e. inl (rw (eqb-true a q e, put-same f q v) at i, eqb-true a q e))
+    (λ e. inr (rw (put-other f q v a (eqb-false a q e)) at i))
+
+pub none-in : {x : Object} → In x [] → ⊥
+none-in i = omega (arith, in-some i)
+
+-- the newest of a list, or one of the rest
+top-or : {x : Object} {k : List Object} → In x k → (y : Object) (l : List Object) → k ≡ y ∷ l → (x ≡ y) ⊎ In x l
+top-or In.first y l e = inl (cc)
+top-or {x} (In.later {l = k} i) y l e = let z : k ≡ l = cc in inr (rw z at i)
+
+pub on-or : {x : Line} {k : List Line} → On x k → (y : Line) (l : List Line) → k ≡ y ∷ l → (x ≡ y) ⊎ On x l
+on-or On.first y l e = inl (cc)
+on-or {x} (On.later {ls = k} i) y l e = let z : k ≡ l = cc in inr (rw z at i)
+
+on-some : {x : Line} {k : List Line} → On x k → 0 < length k
+on-some On.first = omega arith
+on-some (On.later i) = omega (arith, on-some i)
+
+pub none-on : {x : Line} → On x [] → ⊥
+none-on i = omega (arith, on-some i)
+
+module _ (b : Book) (l : Line) (ok : l .reply .status ≡ 0) (a : ℕ) (x : Object) where
+  abbrev Born : Type 0
+  Born = In x (b .objects a) ⊎ Allocates b l (x .handle) a
+
+  born-exit : (t : ℕ) → In x (bookExit b t .objects a) → Born
+  unfolding bookExit
+  born-exit t i =
+      cases (isScopeOnNone (current (rowOf b t)) (set (b .rows) t (below (rowOf b t))))
+      (λ e. ⊎-elim (λ k. absurd (none-in (k .0))) (λ k. inl k) (put-in (b .objects) (current (rowOf b t)) [] a x (rw e at i)))
+      (λ e. inl (rw e at i))
+
+  born-allocate : (t q r : ℕ) → l .call ≡ allocate t q r
+      → In x (bookAllocate b t (record { handle = l .reply .value; slots = q; words = r }) .objects a) → Born
+  unfolding bookAllocate
+  born-allocate t q r e i =
+      ⊎-elim
+      (λ k. ⊎-elim
+      (λ z. inr (record { thread = t; slots = q; words = r; call = e; accepted = ok; gave = sym (ap (λ (y : Object). y .handle) z); area = sym (k .1) }))
+      (λ z. inl (rw (← (k .1)) at z))
+      (top-or (k .0) _ _ refl))
+      (λ k. inl k)
+      (put-in (b .objects) (current (rowOf b t)) (record { handle = l .reply .value; slots = q; words = r } ∷ b .objects (current (rowOf b t))) a x i)
+
+  -- an object of the book has been there, or the line made it
+  born-step : (c : Call) → l .call ≡ c → In x (bookStep b c (l .reply .value) .objects a) → Born
+  unfolding bookStart bookEnter
+  born-step (start t p) e i = inl i
+  born-step (end t) e i = inl i
+  born-step (make t q r) e i = inl i
+  born-step (enter t q) e i = inl i
+  born-step (exit t) e i = born-exit t i
+  born-step (allocate t q r) e i = born-allocate t q r e i
+  born-step (store t p q r) e i = inl i
+  born-step (load t p q) e i = inl i
+  born-step (write t p q r) e i = inl i
+  born-step (read t p q) e i = inl i
+  born-step (view t p) e i = inl i
+  born-step (viewed t p) e i = inl i
+
+pub born : (b : Book) (l : Line) (a : ℕ) (x : Object) → In x (bookLine b l .objects a) → In x (b .objects a) ⊎ Allocates b l (x .handle) a
+unfolding bookLine
+born b l a x i =
+    cases (eqb (l .reply .status) 0)
+    (λ e. born-step b l (eqb-true (l .reply .status) 0 e) a x (l .call) refl (rw e at i))
+    (λ e. inl (rw e at i))
+
+-- what is gone stays gone
+among-after : (x : ℕ) (k l : List ℕ) → Among x l → Among x (k ++ l)
+among-after x [] l i = i
+among-after x (y ∷ k) l i = Among.later (among-after x k l i)
+
+gone-exit : (b : Book) (t x : ℕ) → Among x (b .gone) → Among x (bookExit b t .gone)
+unfolding bookExit
+gone-exit b t x i =
+    cases (isScopeOnNone (current (rowOf b t)) (set (b .rows) t (below (rowOf b t))))
+    (λ e. rw e (among-after x (handles (b .objects (current (rowOf b t)))) (b .gone) i))
+    (λ e. rw e i)
+
+gone-step : (b : Book) (c : Call) (v x : ℕ) → Among x (b .gone) → Among x (bookStep b c v .gone)
+unfolding bookStart bookEnter bookAllocate
+gone-step b (start t p) v x i = i
+gone-step b (end t) v x i = i
+gone-step b (make t q r) v x i = i
+gone-step b (enter t q) v x i = i
+gone-step b (exit t) v x i = gone-exit b t x i
+gone-step b (allocate t q r) v x i = i
+gone-step b (store t p q r) v x i = i
+gone-step b (load t p q) v x i = i
+gone-step b (write t p q r) v x i = i
+gone-step b (read t p q) v x i = i
+gone-step b (view t p) v x i = i
+gone-step b (viewed t p) v x i = i
+
+gone-line : (b : Book) (l : Line) (x : ℕ) → Among x (b .gone) → Among x (bookLine b l .gone)
+unfolding bookLine
+gone-line b l x i = cases (eqb (l .reply .status) 0) (λ e. rw e (gone-step b (l .call) (l .reply .value) x i)) (λ e. rw e i)
+
+pub gone-run : (w : World) (es : List Element) (x : ℕ) → Among x (bookOf (w .trace) .gone) → Among x (bookOf (run w es .trace) .gone)
+unfolding run
+gone-run w [] x i = i
+gone-run w (e ∷ es) x i = gone-run (step w e) es x (unfold step bookOf in gone-line (bookOf (w .trace)) _ x i)
+
+pub among-some : {x : ℕ} {l : List ℕ} → Among x l → 0 < occurrences x l
+among-some {x} (Among.first {l = l}) = omega (arith, occ-same x l)
+among-some {x} (Among.later {y = y} {l = l} i) =
+    cases (eqb y x)
+    (λ e. rw (eqb-true y x e) (omega (arith, occ-same x l)))
+    (λ e. rw (occ-other x y l (eqb-false y x e)) (among-some i))
+
+-- an area with an object is open, if it is a scope
+module _ (s : State) (m : Memory) (b : Book) (o : Sound s m b) where
+  pub area-below : (a : ℕ) (x : Object) → In x (b .objects a) → a < 64
+  area-below a x i = cases (ltb a 64)
+      (λ e. ltb-true a 64 e)
+      (λ e. absurd (none-in (rw (no-objects-above s m b o a (ltb-false a 64 e)) at i)))
+
+  pub open-area : (a : ℕ) (x : Object) → In x (b .objects a) → 2 ≤ a → Open b a
+  open-area a x i h = opens s b (o .good) (o .same) a h .0 (cases (isOpen s a)
+      (λ e. e)
+      (λ e. absurd (none-in (rw (o .memory .closed a h (area-below a x i) (closed e)) at i))))
+    where
+      closed : isOpen s a ≡ false → countIn s a ≡ 0
+      closed e = let z : countIn s a ≤ 0 = ltb-false 0 (countIn s a) e in omega arith

@@ -1,0 +1,113 @@
+-- What document 01 calls the book: "fed the calls' arguments and answers alone and .. empty at set-up". By its type it sees nothing else.
+-- Assumes nothing.
+use Prim.Native.Nat.{ℕ, zero, suc, _+_}
+use mathlib.Core.Bool.{Bool, true, false, _&&_}
+use mathlib.Core.List.{List, [], _∷_, _++_, map}
+use lib.Dec.{eqb, leb}
+use lib.ListN.{getD, set, replicate}
+use Rattle.layout.specs.Choice.{pick}
+use Rattle.model.specs.State.{current, innermost, isScope}
+use Rattle.model.specs.Calls.{Call, start, end, make, enter, exit, allocate, store, load, write, read, view, viewed, Reply}
+use Rattle.model.specs.Run.{Line}
+
+-- an object made: its handle, its slots and its data words
+pub record Object : Type 0 where
+  pub handle : ℕ
+  pub slots : ℕ
+  pub words : ℕ
+
+-- "a row of areas for each started thread, a parent for each open scope, and the objects made": a row has its top first; a parent is 0 for
+-- none; the live objects stand by area, the newest first; gone has the handles of the objects that are gone
+pub record Book : Type 0 where
+  pub started : ℕ → Bool
+  pub rows : List (List ℕ)
+  pub parents : ℕ → ℕ
+  pub objects : ℕ → List Object
+  pub gone : List ℕ
+
+unfoldable pub blank : Book
+blank = record { started = λ t. false; rows = replicate 16 []; parents = λ a. 0; objects = λ a. []; gone = [] }
+
+abbrev pub rowOf : Book → ℕ → List ℕ
+rowOf b t = getD (b .rows) t []
+
+-- f with v at q
+unfoldable pub putAt {ℓ} : {A : Type ℓ} → (ℕ → A) → ℕ → A → ℕ → A
+putAt f q v a = pick (eqb a q) v (f a)
+
+abbrev pub below : List ℕ → List ℕ
+below [] = []
+below (x ∷ l) = l
+
+-- how often a stands on a row, and on all rows
+unfoldable pub occurrences : ℕ → List ℕ → ℕ
+occurrences a [] = 0
+occurrences a (x ∷ l) = pick (eqb x a) 1 0 + occurrences a l
+
+unfoldable pub total : ℕ → List (List ℕ) → ℕ
+total a [] = 0
+total a (r ∷ rs) = occurrences a r + total a rs
+
+abbrev pub handles : List Object → List ℕ
+handles os = map (λ (o : Object). o .handle) os
+
+-- q is "a scope on no row"
+abbrev pub isScopeOnNone : ℕ → List (List ℕ) → Bool
+isScopeOnNone q rows = isScope q && eqb (total q rows) 0
+
+-- "01 gives the thread an empty row, 02 takes it away."
+unfoldable pub bookStart : Book → ℕ → Bool → Book
+bookStart b t on = record { started = putAt (b .started) t on; rows = set (b .rows) t []; parents = b .parents; objects = b .objects; gone = b .gone }
+
+-- "04: where q is a scope on no row, its parent becomes the innermost scope of the thread's row, or none. Then q goes on top of that row."
+unfoldable pub bookEnter : Book → ℕ → ℕ → Book
+bookEnter b t q = record {
+  started = b .started;
+  rows = set (b .rows) t (q ∷ rowOf b t);
+  parents = pick (isScopeOnNone q (b .rows)) (putAt (b .parents) q (innermost (rowOf b t))) (b .parents);
+  objects = b .objects;
+  gone = b .gone;
+}
+
+-- "05 takes the top off. If that leaves a scope on no row, it has no parent and its objects are gone."
+unfoldable pub bookExit : Book → ℕ → Book
+bookExit b t =
+    let q : ℕ = current (rowOf b t) in
+    let left : List (List ℕ) = set (b .rows) t (below (rowOf b t)) in
+    record {
+      started = b .started;
+      rows = left;
+      parents = pick (isScopeOnNone q left) (putAt (b .parents) q 0) (b .parents);
+      objects = pick (isScopeOnNone q left) (putAt (b .objects) q []) (b .objects);
+      gone = pick (isScopeOnNone q left) (handles (b .objects q) ++ b .gone) (b .gone);
+    }
+
+-- "06 makes an object: its handle is the value, it has q slots, its area is the row's top, or the heap if the row is empty."
+unfoldable pub bookAllocate : Book → ℕ → Object → Book
+bookAllocate b t o =
+    let a : ℕ = current (rowOf b t) in
+    record { started = b .started; rows = b .rows; parents = b .parents; objects = putAt (b .objects) a (o ∷ b .objects a); gone = b .gone }
+
+-- an accepted call with its value; "The rest .. change nothing."
+abbrev pub bookStep : Book → Call → ℕ → Book
+bookStep b (start t p) v = bookStart b t true
+bookStep b (end t) v = bookStart b t false
+bookStep b (make t q r) v = b
+bookStep b (enter t q) v = bookEnter b t q
+bookStep b (exit t) v = bookExit b t
+bookStep b (allocate t q r) v = bookAllocate b t (record { handle = v; slots = q; words = r })
+bookStep b (store t p q r) v = b
+bookStep b (load t p q) v = b
+bookStep b (write t p q r) v = b
+bookStep b (read t p q) v = b
+bookStep b (view t p) v = b
+bookStep b (viewed t p) v = b
+
+-- ".. and any refused call, change nothing."
+unfoldable pub bookLine : Book → Line → Book
+bookLine b l = pick (eqb (l .reply .status) 0) (bookStep b (l .call) (l .reply .value)) b
+
+-- the book after the lines of a list, the newest first
+unfoldable pub bookOf : List Line → Book
+bookOf [] = blank
+bookOf (l ∷ ls) = bookLine (bookOf ls) l

@@ -1,0 +1,62 @@
+-- The checks with which calls begin, the rights, and liveness of a handle.
+-- Assumes nothing.
+use Prim.Native.Nat.{ℕ, zero, suc, _+_}
+use mathlib.Core.Bool.{Bool, not, _&&_, _||_}
+use mathlib.Core.List.{List}
+use lib.Dec.{eqb, leb, ltb}
+use lib.ListN.{length, getD}
+use Rattle.layout.specs.Choice.{refuse}
+use Rattle.layout.specs.Handle.{null, offsetOf, areaOf, generationOf}
+use Rattle.layout.specs.Header.{slotsOf, dataOf}
+use Rattle.layout.specs.Bitmap.{bitAt}
+use Rattle.layout.specs.Rights.{classOf, allows}
+use Rattle.layout.specs.declared.rights.Right.{Right}
+use Rattle.layout.specs.declared.rights.Right.the-variants.{Use}
+use Rattle.model.specs.State.{State, Memory, areaAt, threadAt, isOpen, wordAt, bitIndex}
+
+-- "Every later call compares the three lengths."
+unfoldable pub fits : State → Memory → Bool
+fits s m =
+    eqb (length (m .permanent)) (s .lengths .permanent)
+    && (eqb (length (m .scratch)) (s .lengths .scratch) && eqb (length (m .map)) (s .lengths .map))
+
+abbrev pub isStarted : State → ℕ → Bool
+isStarted s t = ltb 0 (threadAt s t .kind)
+
+-- "1: lengths are not those of set-up", then "2: thread above 15, or not started", then the rest of a call's refusals
+unfoldable pub admit : State → Memory → ℕ → ℕ → ℕ
+admit s m t rest = refuse (not (fits s m)) 1 (refuse (leb 16 t) 2 (refuse (not (isStarted s t)) 2 rest))
+
+-- "5: rights table has 0": the right of thread t's kind in the class of area a
+unfoldable pub hasRight : State → ℕ → Right → ℕ → Bool
+hasRight s t right a = allows (threadAt s t .kind) (classOf a) right
+
+-- the header that a handle leads to
+abbrev pub headerAt : State → Memory → ℕ → ℕ
+headerAt s m h = wordAt s m (areaOf h) (offsetOf h)
+
+-- "A handle is live if the area is heap, immortal or an open scope, the turn is the area's, the offset is below the used words, its map bit
+-- is 1, and the whole object ends within the used words."
+unfoldable pub live : State → Memory → ℕ → Bool
+live s m h =
+    (ltb (areaOf h) 2 || isOpen s (areaOf h))
+    && (eqb (generationOf h) (areaAt s (areaOf h) .generation)
+    && (ltb (offsetOf h) (areaAt s (areaOf h) .used)
+    && (eqb (bitAt (m .map) (bitIndex s (areaOf h) (offsetOf h))) 1
+    && leb (suc (offsetOf h + slotsOf (headerAt s m h) + dataOf (headerAt s m h))) (areaAt s (areaOf h) .used))))
+
+-- "13: object null or not live", as a test that an object passes
+unfoldable pub isObject : State → Memory → ℕ → Bool
+isObject s m p = not (eqb p null) && live s m p
+
+-- "15: target or loaded word neither null nor live", as a test that a reference passes
+unfoldable pub isReference : State → Memory → ℕ → Bool
+isReference s m x = eqb x null || live s m x
+
+-- refusals 1, 2, 13, 5, with which every call on an object begins: "U in 09, 0a and the shown part (the object's area), and in 07 and 08 U
+-- for the object"
+unfoldable pub useStatus : State → Memory → ℕ → ℕ → ℕ → ℕ
+useStatus s m t p rest =
+    admit s m t
+    (refuse (not (isObject s m p)) 13
+    (refuse (not (hasRight s t Use (areaOf p))) 5 rest))

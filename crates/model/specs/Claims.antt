@@ -1,0 +1,122 @@
+-- What is claimed after every list of calls: the third demand, each claim a field of one record.
+-- Assumes nothing.
+use Prim.Native.Nat.{ℕ, zero, suc, _+_, _≤_, _<_}
+use mathlib.Core.Bool.{Bool, true, false}
+use mathlib.Core.List.{List, [], _∷_}
+use mathlib.Core.Path.{_≡_}
+use mathlib.Core.Logic.{_≢_, _↔_, _⊎_}
+use lib.Dec.{eqb}
+use Rattle.layout.specs.Choice.{pick}
+use Rattle.layout.specs.Handle.{null, offsetOf, areaOf}
+use Rattle.model.specs.State.{State, Memory, areaAt, stackAt, current, isOpen, displayAt, displayHolds, wordAt}
+use Rattle.model.specs.Checks.{isStarted, live}
+use Rattle.model.specs.Calls.{Call, allocate, load, Reply}
+use Rattle.model.specs.Run.{Element, Line, World, run}
+use Rattle.model.specs.Book.{Object, Book, rowOf, occurrences, total, bookOf}
+
+-- ---- the words of the claims
+
+-- "Open means on some row."
+abbrev pub Open : Book → ℕ → Type 0
+Open b a = (2 ≤ a) × (0 < total a (b .rows))
+
+-- "A walk goes from a scope to its parent and so on; it meets the scope itself and then its ancestors, the outermost last."
+pub data Walk (parent : ℕ → ℕ) : ℕ → List ℕ → Type 0 where
+  ends : Walk parent 0 []
+  goes : {a : ℕ} {l : List ℕ} → 2 ≤ a → Walk parent (parent a) l → Walk parent a (a ∷ l)
+
+-- from b the walk meets a
+pub data Meets (parent : ℕ → ℕ) (a : ℕ) : ℕ → Type 0 where
+  here : Meets parent a a
+  up : {b : ℕ} → 2 ≤ b → Meets parent a (parent b) → Meets parent a b
+
+-- "In their order means that on the row each one met stands below the one met before it, outermost lowest."
+pub data InOrder : List ℕ → List ℕ → Type 0 where
+  none : {r : List ℕ} → InOrder [] r
+  keep : {a : ℕ} {l r : List ℕ} → InOrder l r → InOrder (a ∷ l) (a ∷ r)
+  skip : {x : ℕ} {l r : List ℕ} → InOrder l r → InOrder l (x ∷ r)
+
+-- "the scan [says yes] if on the thread's row A stands no higher than B": from the top down to b, and from there down to a
+unfoldable pub onRow : ℕ → List ℕ → Bool
+onRow a [] = false
+onRow a (x ∷ l) = pick (eqb x a) true (onRow a l)
+
+unfoldable pub scan : ℕ → ℕ → List ℕ → Bool
+scan a b [] = false
+scan a b (x ∷ l) = pick (eqb x b) (onRow a (x ∷ l)) (scan a b l)
+
+-- o is one of a list of objects
+pub data In (o : Object) : List Object → Type 0 where
+  first : {l : List Object} → In o (o ∷ l)
+  later : {x : Object} {l : List Object} → In o l → In o (x ∷ l)
+
+-- a number is one of a list
+pub data Among (x : ℕ) : List ℕ → Type 0 where
+  first : {l : List ℕ} → Among x (x ∷ l)
+  later : {y : ℕ} {l : List ℕ} → Among x l → Among x (y ∷ l)
+
+-- a line of an accepted allocation that gave x, by a thread whose row has area a on top
+pub record Allocates (b : Book) (l : Line) (x a : ℕ) : Type 0 where
+  pub thread : ℕ
+  pub slots : ℕ
+  pub words : ℕ
+  pub call : l .call ≡ allocate thread slots words
+  pub accepted : l .reply .status ≡ 0
+  pub gave : l .reply .value ≡ x
+  pub area : current (rowOf b thread) ≡ a
+
+-- by the list of calls alone: an allocation gave x in area a, and if a is a scope, it has not been empty of threads since. The newest line
+-- is the first.
+pub data Since (x a : ℕ) : List Line → Type 0 where
+  made : {l : Line} {ls : List Line} → Allocates (bookOf ls) l x a → Since x a (l ∷ ls)
+  stays : {l : Line} {ls : List Line} → Since x a ls → (2 ≤ a → Open (bookOf (l ∷ ls)) a) → Since x a (l ∷ ls)
+
+-- "names the object with that handle": x is the handle of a live object of the book, one "in the heap, in immortal memory, or in a scope
+-- that, by the list of calls alone, has never been empty of threads since that object was made"
+pub record Names (b : Book) (ls : List Line) (x : ℕ) : Type 0 where
+  pub area : ℕ
+  pub object : Object
+  pub live : In object (b .objects area)
+  pub handle : object .handle ≡ x
+  pub since : Since x area ls
+
+-- the line of a load, op 08
+pub record IsLoad (l : Line) : Type 0 where
+  pub thread : ℕ
+  pub object : ℕ
+  pub slot : ℕ
+  pub call : l .call ≡ load thread object slot
+
+-- a line of the trace
+pub data On (l : Line) : List Line → Type 0 where
+  first : {ls : List Line} → On l (l ∷ ls)
+  later : {k : Line} {ls : List Line} → On l ls → On l (k ∷ ls)
+
+-- ---- the claims
+
+-- of a world that a list of calls has led to, with its book
+pub record Claims (w : World) (b : Book) : Type 0 where
+  -- 1. "The core has the book's started threads, stacks, open scopes and parents."
+  pub started : (t : ℕ) → isStarted (w .state) t ≡ b .started t
+  pub stacks : (t : ℕ) → stackAt (w .state) t ≡ rowOf b t
+  pub opens : (a : ℕ) → 2 ≤ a → (isOpen (w .state) a ≡ true) ↔ Open b a
+  pub parents : (a : ℕ) → areaAt (w .state) a .parent ≡ b .parents a
+  -- a scope that is not open has no display
+  pub dropped : (a : ℕ) → isOpen (w .state) a ≡ false → displayAt (w .state) a ≡ []
+  -- 2. "Every thread in a scope stands in all that scope's ancestors, in their order."
+  pub order : (t a : ℕ) → 2 ≤ a → 0 < occurrences a (rowOf b t) → (l : List ℕ) × Walk (b .parents) a l × InOrder l (rowOf b t)
+  -- 3. "Every reference in a live object is null or names a live object: one in the heap, in immortal memory, or in a scope that, by the list
+  -- of calls alone, has never been empty of threads since that object was made." "a reference is the lent word in one of its slots"
+  pub references : (a : ℕ) (o : Object) → In o (b .objects a) → (i : ℕ) → i < o .slots
+      → (wordAt (w .state) (w .memory) a (suc (offsetOf (o .handle) + i)) ≡ null)
+      ⊎ Names b (w .trace) (wordAt (w .state) (w .memory) a (suc (offsetOf (o .handle) + i)))
+  -- 4. "A number is a live handle exactly when an allocation gave it for a live object"
+  pub handles : (x : ℕ) → (live (w .state) (w .memory) x ≡ true) ↔ Names b (w .trace) x
+  -- 5. "a handle whose object is gone is never accepted as one again": not after any rest of the list
+  pub gone : (rest : List Element) (x : ℕ) → Among x (b .gone) → live (run w rest .state) (run w rest .memory) x ≡ false
+  -- 6. "The display's verdict equals a walk of the parents for any two open scopes, and a scan of a thread's stack when both stand on it."
+  pub walked : (a c : ℕ) → Open b a → Open b c → (displayHolds (w .state) a c ≡ true) ↔ Meets (b .parents) a c
+  pub scanned : (t a c : ℕ) → 2 ≤ a → 2 ≤ c → 0 < occurrences a (rowOf b t) → 0 < occurrences c (rowOf b t)
+      → displayHolds (w .state) a c ≡ scan a c (rowOf b t)
+  -- 7. "No op 08 in it yields 15."
+  pub loads : (l : Line) → On l (w .trace) → IsLoad l → l .reply .status ≢ 15

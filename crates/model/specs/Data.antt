@@ -1,0 +1,31 @@
+-- Ops 09 and 0a: a data word is written or read; and an object's data shown as a part of its store.
+-- Assumes nothing.
+use Prim.Native.Nat.{ℕ, _+_}
+use mathlib.Core.List.{List, []}
+use lib.Dec.{eqb, leb}
+use lib.ListN.{take, drop}
+use Rattle.layout.specs.Choice.{pick, refuse}
+use Rattle.layout.specs.Handle.{areaOf}
+use Rattle.layout.specs.Header.{slotsOf, dataOf}
+use Rattle.model.specs.State.{State, Memory, storeOf}
+use Rattle.model.specs.Checks.{headerAt, useStatus}
+use Rattle.model.specs.References.{placeAfter}
+
+-- ops 09 and 0a, refusals 1, 2, 13, 5, 14: "data index not below .. d"
+unfoldable pub dataStatus : State → Memory → ℕ → ℕ → ℕ → ℕ
+dataStatus s m t p q = useStatus s m t p (refuse (leb (dataOf (headerAt s m p)) q) 14 0)
+
+-- data word q stands after the header and the slots
+abbrev pub dataIndex : State → Memory → ℕ → ℕ → ℕ
+dataIndex s m p q = slotsOf (headerAt s m p) + q
+
+-- the call beside the shown part: "Refusals of this call (1, 2, 13, 5)"
+unfoldable pub viewStatus : State → Memory → ℕ → ℕ → ℕ
+viewStatus s m t p = useStatus s m t p 0
+
+-- "shown as a part of the permanent or scratch store itself: exactly its d words. Refusals .. show a part of length 0"
+unfoldable pub viewWords : State → Memory → ℕ → ℕ → List ℕ
+viewWords s m t p =
+    pick (eqb (viewStatus s m t p) 0)
+    (take (dataOf (headerAt s m p)) (drop (placeAfter s p (dataIndex s m p 0)) (storeOf m (areaOf p))))
+    []

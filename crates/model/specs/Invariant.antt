@@ -1,0 +1,108 @@
+-- The invariant of the state alone, which set-up gives and every call keeps, refused or not, whatever the lent words hold.
+-- Assumes nothing.
+use Prim.Native.Nat.{ℕ, zero, suc, _+_, _/_, _≤_, _<_}
+use mathlib.Core.Bool.{Bool}
+use mathlib.Core.List.{List, [], _∷_, map}
+use mathlib.Core.Path.{_≡_}
+use mathlib.Core.Logic.{_≢_}
+use lib.ListN.{length, getD}
+use Rattle.layout.specs.Choice.{pick}
+use Rattle.layout.specs.Stack.{down}
+use Rattle.model.specs.declared.Area.{Area}
+use Rattle.model.specs.State.{Thread, State, noThread, areaAt, rowAt, threadAt, stackOf, current, innermost, isScope, displayAt}
+use Rattle.model.specs.Scopes.{lastGeneration}
+use Rattle.model.specs.Book.{total}
+
+-- ---- nesting
+
+-- the scopes of a row: heap and immortal entries are passed over
+unfoldable pub scopesOf : List ℕ → List ℕ
+scopesOf [] = []
+scopesOf (x ∷ l) = pick (isScope x) (x ∷ scopesOf l) (scopesOf l)
+
+-- scope a stands above the scopes l: its parent is the first of them, and its display is itself and then they
+pub record Link (parent : ℕ → ℕ) (display : ℕ → List ℕ) (a : ℕ) (l : List ℕ) : Type 0 where
+  pub scope : 2 ≤ a
+  pub area : a < 64
+  pub parent-is : parent a ≡ current l
+  pub display-is : display a ≡ a ∷ l
+
+abbrev pub Nested : (ℕ → ℕ) → (ℕ → List ℕ) → List ℕ → Type 0
+Nested parent display [] = Unit {0}
+Nested parent display (a ∷ l) = Link parent display a l × Nested parent display l
+
+-- over a parent, a display and a count for each area, and the stacks: each count is the number of entries, and each stack is nested
+pub record Nesting (parent : ℕ → ℕ) (display : ℕ → List ℕ) (count : ℕ → ℕ) (stacks : List (List ℕ)) : Type 0 where
+  pub size : length stacks ≡ 16
+  pub counts : (a : ℕ) → 2 ≤ a → a < 64 → count a ≡ total a stacks
+  pub nested : (t : ℕ) → t < 16 → Nested parent display (scopesOf (getD stacks t []))
+
+-- ---- threads
+
+-- a stack of at most 32 entries, each an area; beside each the innermost scope as of it; a thread that is not started has none
+pub record ThreadGood (h : Thread) : Type 0 where
+  pub kind : h .kind < 4
+  pub idle : h .kind ≡ 0 → h .len ≡ 0
+  pub room : length (h .entries) ≡ 32
+  pub inner-room : length (h .inner) ≡ 32
+  pub fits : h .len ≤ 32
+  pub areas : (k : ℕ) → k < h .len → getD (h .entries) k 0 < 64
+  pub inner-is : (k : ℕ) → k < h .len → getD (h .inner) k 0 ≡ innermost (down (h .entries) (suc k))
+
+-- a fact of each element of a list of a known length
+pub record Each {ℓ κ} {A : Type ℓ} (P : A → Type κ) (d : A) (n : ℕ) (l : List A) : Type (ℓ ⊔ κ) where
+  pub size : length l ≡ n
+  pub each : (i : ℕ) → i < n → P (getD l i d)
+
+-- ---- areas
+
+-- heap and immortal
+pub record StandingGood (x : Area) : Type 0 where
+  pub generation : x .generation ≡ 1
+  pub count : x .count ≡ 0
+  pub parent : x .parent ≡ 0
+  pub depth : x .depth ≡ 0
+
+-- a scope
+pub record ScopeGood (x : Area) : Type 0 where
+  pub generation : x .generation ≤ lastGeneration
+  pub made : 0 < x .count → 0 < x .size
+  pub begun : 0 < x .count → 0 < x .generation
+  pub no-parent : x .count ≡ 0 → x .parent ≡ 0
+  pub no-words : x .count ≡ 0 → x .used ≡ 0
+  pub no-depth : x .count ≡ 0 → x .depth ≡ 0
+
+-- where the areas lie: heap, then immortal, fill the permanent store; scopes share the scratch words that are taken and no word
+pub record Placed (s : State) : Type 0 where
+  pub permanent : s .lengths .permanent ≤ 16384
+  pub scratch : s .lengths .scratch ≤ 16384
+  pub map : s .lengths .map ≡ (s .lengths .permanent + s .lengths .scratch + 63) / 64
+  pub heap : areaAt s 0 .start ≡ 0
+  pub immortal : areaAt s 1 .start ≡ areaAt s 0 .size
+  pub whole : areaAt s 0 .size + areaAt s 1 .size ≡ s .lengths .permanent
+  pub taken : s .taken ≤ s .lengths .scratch
+  pub below : (a : ℕ) → 2 ≤ a → a < 64 → areaAt s a .start + areaAt s a .size ≤ s .taken
+  pub used : (a : ℕ) → a < 64 → areaAt s a .used ≤ areaAt s a .size
+  pub apart : (a c : ℕ) → 2 ≤ a → a < 64 → 2 ≤ c → c < 64 → a ≢ c
+      → (j k : ℕ) → j < areaAt s a .size → k < areaAt s c .size → areaAt s a .start + j ≢ areaAt s c .start + k
+
+-- ---- the whole
+
+-- what is seen of a state
+abbrev pub parentIn : State → ℕ → ℕ
+parentIn s a = areaAt s a .parent
+
+abbrev pub countIn : State → ℕ → ℕ
+countIn s a = areaAt s a .count
+
+abbrev pub stacksIn : State → List (List ℕ)
+stacksIn s = map stackOf (s .threads)
+
+pub record Good (s : State) : Type 0 where
+  pub areas : length (s .areas) ≡ 64
+  pub rows : Each (λ (r : List ℕ). length r ≡ 32) [] 64 (s .rows)
+  pub threads : Each ThreadGood noThread 16 (s .threads)
+  pub standing : (a : ℕ) → a < 2 → StandingGood (areaAt s a)
+  pub scopes : (a : ℕ) → 2 ≤ a → a < 64 → ScopeGood (areaAt s a)
+  pub placed : Placed s
+  pub nesting : Nesting (parentIn s) (displayAt s) (countIn s) (stacksIn s)

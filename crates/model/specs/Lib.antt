@@ -1,0 +1,14 @@
+-- The machine of document 01, call by call; the book; every list of calls; and what is claimed after each.
+pub mod State
+pub mod SetUp
+pub mod Checks
+pub mod Threads
+pub mod Scopes
+pub mod Objects
+pub mod References
+pub mod Data
+pub mod Calls
+pub mod Run
+pub mod Book
+pub mod Claims
+pub mod Invariant

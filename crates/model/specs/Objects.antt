@@ -1,0 +1,56 @@
+-- Op 06: an object is allocated.
+-- Assumes nothing.
+use Prim.Native.Nat.{ℕ, zero, suc, _+_}
+use mathlib.Core.Bool.{not}
+use mathlib.Core.List.{List}
+use lib.Dec.{ltb}
+use lib.ListN.{set}
+use Rattle.layout.specs.Choice.{refuse}
+use Rattle.layout.specs.Handle.{handleOf}
+use Rattle.layout.specs.Header.{headerOf}
+use Rattle.layout.specs.Bitmap.{withBit, cleared}
+use Rattle.layout.specs.declared.rights.Right.the-variants.{Allocate}
+use Rattle.model.specs.declared.Area.{Area}
+use Rattle.model.specs.State.{State, Memory, areaAt, withArea, stackAt, current, storeOf, withStore, bitIndex}
+use Rattle.model.specs.Checks.{admit, hasRight}
+
+-- the area that a thread allocates in
+abbrev pub currentAt : State → ℕ → ℕ
+currentAt s t = current (stackAt s t)
+
+-- refusals 1, 2, 5, 12: "A in 06 (current area)", "12: used + 1 + s + d above the size"
+unfoldable pub allocateStatus : State → Memory → ℕ → ℕ → ℕ → ℕ
+allocateStatus s m t slots words =
+    admit s m t
+    (refuse (not (hasRight s t Allocate (currentAt s t))) 5
+    (refuse (ltb (areaAt s (currentAt s t) .size) (suc (areaAt s (currentAt s t) .used + slots + words))) 12 0))
+
+-- "Allocation takes the area's next words"
+abbrev pub grown : Area → ℕ → Area
+grown x used = record { start = x .start; size = x .size; used = used; generation = x .generation; count = x .count; parent = x .parent; depth = x .depth }
+
+-- in area a; "takes 1 + s + d words"
+unfoldable pub allocateState : State → ℕ → ℕ → ℕ → State
+allocateState s a slots words = withArea s a (grown (areaAt s a) (suc (areaAt s a .used + slots + words)))
+
+-- n times v from place p on
+unfoldable pub filled : List ℕ → ℕ → ℕ → ℕ → List ℕ
+filled l p zero v = l
+filled l p (suc n) v = set (filled l p n v) (p + n) v
+
+-- "header .., slots, data", "sets slots and data to 0"
+unfoldable pub objectWords : List ℕ → ℕ → ℕ → ℕ → List ℕ
+objectWords l at slots words = set (filled l (suc at) (slots + words) 0) at (headerOf slots words)
+
+-- "sets the map bit of the header and clears those of its other words"
+unfoldable pub objectBits : List ℕ → ℕ → ℕ → List ℕ
+objectBits map at n = withBit (cleared map (suc at) n) at
+
+unfoldable pub allocateMemory : State → Memory → ℕ → ℕ → ℕ → Memory
+allocateMemory s m a slots words =
+    withStore (record { permanent = m .permanent; scratch = m .scratch; map = objectBits (m .map) (bitIndex s a (areaAt s a .used)) (slots + words) })
+    a (objectWords (storeOf m a) (areaAt s a .start + areaAt s a .used) slots words)
+
+-- "value: handle"
+unfoldable pub allocateValue : State → ℕ → ℕ
+allocateValue s a = handleOf (areaAt s a .used) a (areaAt s a .generation)

@@ -1,0 +1,55 @@
+-- Every list of calls: "Each call is given the state that set-up or the call before it left, and each call not refused by 1 is lent the
+-- memory as set-up or the last such call before it left it."
+-- Assumes nothing.
+use Prim.Native.Nat.{ℕ}
+use mathlib.Core.List.{List, [], _∷_}
+use Rattle.layout.specs.Choice.{pick}
+use Rattle.model.specs.State.{State, Memory}
+use Rattle.model.specs.SetUp.{lengthsOf, firstState}
+use Rattle.model.specs.Checks.{fits}
+use Rattle.model.specs.Calls.{Call, Reply, Outcome, outcomeOf}
+
+-- what a call is lent: the memory as it was left, or another memory
+pub data Lent : Type 0 where
+  kept : Lent
+  other : Memory → Lent
+
+-- an element of the list
+pub record Element : Type 0 where
+  pub call : Call
+  pub lent : Lent
+
+-- a call with its answer
+pub record Line : Type 0 where
+  pub call : Call
+  pub reply : Reply
+
+-- the state, the kept memory, and the lines of the calls so far, the newest first
+pub record World : Type 0 where
+  pub state : State
+  pub memory : Memory
+  pub trace : List Line
+
+-- another memory has other lengths than those of set-up; where it has not, the call is lent the kept memory
+abbrev pub lentTo : State → Memory → Lent → Memory
+lentTo s m kept = m
+lentTo s m (other n) = pick (fits s n) m n
+
+-- one call: what is lent with other lengths is not kept
+unfoldable pub step : World → Element → World
+step w e =
+    let m : Memory = lentTo (w .state) (w .memory) (e .lent) in
+    let o : Outcome = outcomeOf (w .state) m (e .call) in
+    record {
+      state = o .state;
+      memory = pick (fits (w .state) m) (o .memory) (w .memory);
+      trace = record { call = e .call; reply = o .reply } ∷ w .trace;
+    }
+
+unfoldable pub run : World → List Element → World
+run w [] = w
+run w (e ∷ es) = run (step w e) es
+
+-- "from an accepted set-up", with any contents of the lent words; "Set-up writes no word."
+unfoldable pub begin : ℕ → ℕ → Memory → World
+begin h i m = record { state = firstState h i (lengthsOf m); memory = m; trace = [] }

@@ -1,0 +1,21 @@
+// What is right: the machine of document 01 in definitions, and the theorem over every list of
+// calls. There is no code here but the records that the definitions share with the code.
+
+// An area: where its words start in its store, how many it has, how many are used, its generation,
+// its reference count, its parent (0 for none) and its depth (0 unless it is an open scope).
+pub struct Area {
+    pub start: u64,
+    pub size: u64,
+    pub used: u64,
+    pub generation: u64,
+    pub count: u64,
+    pub parent: u64,
+    pub depth: u64,
+}
+
+// The lengths of the three lent buffers, in words.
+pub struct Lengths {
+    pub permanent: u64,
+    pub scratch: u64,
+    pub map: u64,
+}
