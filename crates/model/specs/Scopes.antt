@@ -9,7 +9,7 @@ use Rattle.layout.specs.Choice.{pick, refuse}
 use Rattle.layout.specs.Display.{extendedRow}
 use Rattle.layout.specs.declared.rights.Right.the-variants.{Enter}
 use Rattle.model.specs.declared.Area.{Area}
-use Rattle.model.specs.State.{Thread, State, Memory, areaAt, rowAt, threadAt, withArea, withRow, withThread, withTaken, stackAt, current, innermost, isScope, isMade, isOpen}
+use Rattle.model.specs.State.{Thread, State, Memory, areaAt, rowAt, threadAt, withArea, withRow, withThread, withTaken, stackOf, stackAt, current, innermost, isScope, isMade, isOpen}
 use Rattle.model.specs.Checks.{admit, hasRight}
 
 -- ---- op 03, make scope
@@ -77,7 +77,7 @@ pushed h q = record {
   kind = h .kind;
   len = suc (h .len);
   entries = set (h .entries) (h .len) q;
-  inner = set (h .inner) (h .len) (pick (isScope q) q (innermost (Rattle.model.specs.State.stackOf h)));
+  inner = set (h .inner) (h .len) (pick (isScope q) q (innermost (stackOf h)));
 }
 
 unfoldable pub enterState : State → ℕ → ℕ → State

@@ -6,6 +6,7 @@ use mathlib.Core.List.{List, [], _∷_}
 use lib.Dec.{eqb, leb, ltb}
 use lib.ListN.{length, getD, set}
 use Rattle.layout.specs.Choice.{pick}
+use Rattle.layout.specs.Display.{rowHolds}
 use Rattle.layout.specs.Stack.{down}
 use Rattle.model.specs.declared.Area.{Area}
 use Rattle.model.specs.declared.Lengths.{Lengths}
@@ -103,7 +104,7 @@ displayAt s a = down (rowAt s a) (areaAt s a .depth)
 -- "Of scopes A and B .. the display [says yes] if the core's display of B holds A": one look, at A's own depth (source 004, Algorithm 9).
 -- It is all that the reference check looks at.
 unfoldable pub displayHolds : State → ℕ → ℕ → Bool
-displayHolds s a b = leb (areaAt s a .depth) (areaAt s b .depth) && Rattle.layout.specs.Display.rowHolds (rowAt s b) (areaAt s a .depth) a
+displayHolds s a b = leb (areaAt s a .depth) (areaAt s b .depth) && rowHolds (rowAt s b) (areaAt s a .depth) a
 
 -- ---- the words of an area
 
