@@ -1,17 +1,16 @@
 -- The map's laws: what setting, clearing and clearing a run leave at each bit.
 -- Assumes nothing.
-use mathlib.Core.Path.{_≡_, refl, sym, ap, _∙_}
+use mathlib.Core.Path.{_≡_, refl, _∙_}
 use mathlib.Core.List.{List}
 use mathlib.Core.Logic.{_⊎_, ⊎-elim, inl, inr}
 use Prim.Native.Nat.{ℕ, zero, suc, _+_, _*_, _/_, _%_, _≤_, _<_}
 use native.Mathlib.Omega.{arith}
-use native.Mathlib.Numerals.{add-one}
 use mathlib.Core.Bool.{Bool, true, false}
 use lib.Dec.{eqb}
 use borrow.Author.Tests.{eqb-true, eqb-false}
-use lib.ListN.{length, getD, set, length-set}
+use lib.ListN.{length, getD, length-set}
 use lib.Seq.{getD-set-same, getD-set-other}
-use Rattle.layout.specs.Bitmap.{bitAt, withBit, withoutBit, cleared, digit, withDigit, withoutDigit}
+use Rattle.layout.specs.Bitmap.{bitAt, withBit, withoutBit, cleared}
 use Rattle.layout.specs.Digits.{with-same, with-other, without-same, without-other}
 
 pub length-without : (m : List ℕ) (w : ℕ) → length (withoutBit m w) ≡ length m

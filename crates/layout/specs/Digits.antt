@@ -1,12 +1,12 @@
 -- Binary digits: what a shift and a mask do to one of them, and what setting and clearing one leaves of the others.
 -- Assumes nothing.
-use mathlib.Core.Path.{_≡_, refl, sym, ap, ap₂, _∙_, subst}
-use Prim.Native.Nat.{ℕ, zero, suc, _+_, _-_, _*_, _/_, _%_, _^_, _≤_, _<_, min, max}
-use native.Mathlib.Nat.{mod-eq-of-lt, pow-suc, one-mul, mul-assoc, mul-comm}
-use native.Mathlib.Numerals.{add-one, one-add}
+use mathlib.Core.Path.{_≡_, refl, sym, ap, ap₂, _∙_}
+use Prim.Native.Nat.{ℕ, zero, suc, _+_, _-_, _*_, _/_, _%_, _^_, _≤_, _<_, min}
+use native.Mathlib.Nat.{mod-eq-of-lt, pow-suc, one-mul}
+use native.Mathlib.Numerals.{one-add}
 use native.Mathlib.Omega.{arith}
 use lib.Bits.{bitAnd, bitOr, and-step, and-high, or-add-and, and-le-l}
-use lib.Pow.{pow-pos, pow-lt, shr-shr}
+use lib.Pow.{pow-lt, shr-shr}
 use Rattle.layout.specs.Bitmap.{digit, withDigit, withoutDigit}
 
 twice : (k : ℕ) → 2 ^ suc k ≡ 2 * 2 ^ k

@@ -1,20 +1,20 @@
 -- What an accepted call has passed: one record for each op, from its status being 0.
 -- Assumes nothing.
-use Prim.Native.Nat.{ℕ, zero, suc, _+_, _-_, _≤_, _<_}
-use mathlib.Core.Bool.{Bool, true, false, not, _&&_, _||_}
+use Prim.Native.Nat.{ℕ, suc, _+_, _≤_, _<_}
+use mathlib.Core.Bool.{true, not, _||_}
 use mathlib.Core.Path.{_≡_, refl}
 use native.Mathlib.Omega.{arith}
 use lib.Dec.{eqb, leb, ltb}
-use borrow.Author.Tests.{ltb-true, ltb-false, leb-true, leb-false, eqb-true, eqb-false, lt-ltb, le-leb, le-ltb, not-false, not-true}
-use Rattle.layout.specs.Choice.{refuse, peel, and-true, and-false, or-false}
+use borrow.Author.Tests.{ltb-true, ltb-false, leb-false, eqb-true, eqb-false, lt-ltb, le-leb, le-ltb, not-false}
+use Rattle.layout.specs.Choice.{peel, and-true, and-false, or-false}
 use Rattle.layout.specs.Handle.{null, areaOf}
 use Rattle.layout.specs.Header.{slotsOf, dataOf}
 use Rattle.model.specs.State.{State, Memory, areaAt, threadAt, stackAt, innermost, isMade, isOpen}
-use Rattle.model.specs.Checks.{fits, isStarted, admit, hasRight, headerAt, live, isObject, isReference, useStatus}
+use Rattle.model.specs.Checks.{fits, admit, headerAt, live, isObject, isReference, useStatus}
 use Rattle.model.specs.Threads.{isKind, startStatus, endStatus}
 use Rattle.model.specs.Scopes.{makeStatus, lastGeneration, otherParent, worn, enterStatus, exitStatus}
 use Rattle.model.specs.Objects.{currentAt, allocateStatus}
-use Rattle.model.specs.References.{mayRefer, wordAfter, slotStatus, referenceStatus, storeStatus, loadStatus}
+use Rattle.model.specs.References.{mayRefer, slotStatus, referenceStatus, storeStatus}
 use Rattle.model.specs.Data.{dataStatus}
 
 module _ (s : State) (m : Memory) (t : ℕ) where

@@ -1,21 +1,21 @@
 -- What each call does to the areas, the rows and the lengths of a state: none of the areas, or one, is altered.
 -- Assumes nothing.
 use Prim.Native.Nat.{ℕ, suc, _+_, _≤_, _<_}
-use mathlib.Core.List.{[]}
 use mathlib.Core.Path.{_≡_, refl, ap, _∙_}
 use mathlib.Core.Logic.{_≢_}
 use lib.ListN.{length}
-use lib.Seq.{getD-set-same, getD-set-other}
 use lib.Dec.{eqb}
 use native.Mathlib.Omega.{arith}
-use borrow.Author.Tests.{eqb-true, eqb-false, le-leb, lt-leb, lt-ltb, le-ltb}
+use borrow.Author.Tests.{eqb-true, eqb-false}
 use Rattle.layout.specs.Choice.{cases}
-use Rattle.layout.specs.Display.{extendedRow}
 use Rattle.model.specs.declared.Area.{Area}
-use Rattle.model.specs.State.{Thread, State, noArea, areaAt, rowAt, threadAt, withArea, withRow, withThread, withTaken, stackAt, current, innermost}
+use Rattle.model.specs.State.{Thread, State, areaAt, rowAt, threadAt, withArea, withRow, withThread, withTaken, stackAt, current}
 use Rattle.model.specs.Threads.{ofKind, startState, endState}
-use Rattle.model.specs.Scopes.{madeArea, makeState, reentered, opened, enteredArea, pushed, enterState, left, leftArea, popped, exitState}
+use Rattle.model.specs.Scopes.{madeArea, makeState, reentered, pushed, enterState, left, popped, exitState}
 use Rattle.model.specs.Objects.{grown, allocateState}
+use Rattle.model.proofs.Parts.{area-same, area-other, row-other}
+use Rattle.model.proofs.KeepsEnter.{enter-is-low, enter-is-open, freshRow, freshArea, enter-is-fresh}
+use Rattle.model.proofs.KeepsExit.{exit-is-low, exit-is-scope}
 
 -- area a and its row are as they were
 pub record Untouched (s n : State) (a : ℕ) : Type 0 where
@@ -53,24 +53,18 @@ module _ (s : State) where
   end-stays t = stays t (ofKind (threadAt s t) 0)
 
   pub enter-low : (t q : ℕ) → q < 2 → Stays s (enterState s t q)
-  enter-low t q h = rw is (stays t (pushed (threadAt s t) q))
-    where
-      is : enterState s t q ≡ withThread s t (pushed (threadAt s t) q)
-      is = unfold enterState enteredArea in rw (lt-leb 2 q h)
+  enter-low t q h = rw (enter-is-low s t q h) (stays t (pushed (threadAt s t) q))
 
   pub exit-low : (t : ℕ) → current (stackAt s t) < 2 → Stays s (exitState s t)
-  exit-low t h = rw is (stays t (popped (threadAt s t)))
-    where
-      is : exitState s t ≡ withThread s t (popped (threadAt s t))
-      is = unfold exitState leftArea in rw (lt-leb 2 (current (stackAt s t)) h)
+  exit-low t h = rw (exit-is-low s t h) (stays t (popped (threadAt s t)))
 
   module _ (w : length (s .areas) ≡ 64) (q : ℕ) (h : q < 64) where
     alters : (x : Area) → Alters s (withArea s q x) q x
     unfolding withArea
     alters x = record {
       lengths = refl;
-      here = getD-set-same (s .areas) q x noArea (omega (arith, w));
-      others = λ a ne. record { area = getD-set-other (s .areas) q a x noArea ne; row = refl };
+      here = area-same s q x (omega (arith, w));
+      others = λ a ne. record { area = area-other s q x a ne; row = refl };
     }
 
     -- and a thread
@@ -106,45 +100,26 @@ module _ (s : State) where
 
     -- an open scope is entered
     module _ (t : ℕ) (k : 2 ≤ q) (c : 0 < areaAt s q .count) where
-      open-is : enterState s t q ≡ withThread (withArea s q (reentered (areaAt s q))) t (pushed (threadAt s t) q)
-      unfolding enterState enteredArea
-      open-is = rw (le-leb 2 q k, lt-ltb 0 (areaAt s q .count) c)
-
       pub open-alters : Alters s (enterState s t q) q (reentered (areaAt s q))
-      open-alters = rw open-is (alters-thread (reentered (areaAt s q)) t (pushed (threadAt s t) q))
+      open-alters = rw (enter-is-open s t q k c) (alters-thread (reentered (areaAt s q)) t (pushed (threadAt s t) q))
 
       pub open-rows : (a : ℕ) → rowAt (enterState s t q) a ≡ rowAt s a
-      open-rows a = rw open-is (keeps-rows (reentered (areaAt s q)) t (pushed (threadAt s t) q) a)
+      open-rows a = rw (enter-is-open s t q k c) (keeps-rows (reentered (areaAt s q)) t (pushed (threadAt s t) q) a)
 
     -- a scope that is not open is entered
     module _ (t : ℕ) (k : 2 ≤ q) (c : areaAt s q .count ≡ 0) where
-      abbrev openedBy : Area
-      openedBy = opened (areaAt s q) (innermost (stackAt s t)) (areaAt s (innermost (stackAt s t)) .depth)
-
-      fresh-is : enterState s t q
-          ≡ withThread (withArea (withRow s q (extendedRow (rowAt s (innermost (stackAt s t))) (areaAt s (innermost (stackAt s t)) .depth) q)) q openedBy) t (pushed (threadAt s t) q)
-      unfolding enterState enteredArea
-      fresh-is = rw (le-leb 2 q k, le-ltb 0 (areaAt s q .count) (omega arith))
-
-      pub fresh-alters : Alters s (enterState s t q) q (opened (areaAt s q) (innermost (stackAt s t)) (areaAt s (innermost (stackAt s t)) .depth))
+      pub fresh-alters : Alters s (enterState s t q) q (freshArea s t q)
       unfolding withThread withArea withRow
-      fresh-alters = rw fresh-is record {
+      fresh-alters = rw (enter-is-fresh s t q k c) record {
         lengths = refl;
-        here = getD-set-same (s .areas) q openedBy noArea (omega (arith, w));
-        others = λ a ne. record {
-          area = getD-set-other (s .areas) q a openedBy noArea ne;
-          row = getD-set-other (s .rows) q a (extendedRow (rowAt s (innermost (stackAt s t))) (areaAt s (innermost (stackAt s t)) .depth) q) [] ne;
-        };
+        here = area-same (withRow s q (freshRow s t q)) q (freshArea s t q) (omega (arith, w));
+        others = λ a ne. record { area = area-other (withRow s q (freshRow s t q)) q (freshArea s t q) a ne; row = row-other s q (freshRow s t q) a ne };
       }
 
   -- a scope is left
   module _ (w : length (s .areas) ≡ 64) (t : ℕ) (k : 2 ≤ current (stackAt s t)) (h : current (stackAt s t) < 64) where
-    left-is : exitState s t ≡ withThread (withArea s (current (stackAt s t)) (left (areaAt s (current (stackAt s t))))) t (popped (threadAt s t))
-    unfolding exitState leftArea
-    left-is = rw (le-leb 2 (current (stackAt s t)) k)
-
     pub left-alters : Alters s (exitState s t) (current (stackAt s t)) (left (areaAt s (current (stackAt s t))))
-    left-alters = rw left-is (alters-thread w (current (stackAt s t)) h (left (areaAt s (current (stackAt s t)))) t (popped (threadAt s t)))
+    left-alters = rw (exit-is-scope s t k) (alters-thread w (current (stackAt s t)) h (left (areaAt s (current (stackAt s t)))) t (popped (threadAt s t)))
 
     pub left-rows : (a : ℕ) → rowAt (exitState s t) a ≡ rowAt s a
-    left-rows a = rw left-is (keeps-rows w (current (stackAt s t)) h (left (areaAt s (current (stackAt s t)))) t (popped (threadAt s t)) a)
+    left-rows a = rw (exit-is-scope s t k) (keeps-rows w (current (stackAt s t)) h (left (areaAt s (current (stackAt s t)))) t (popped (threadAt s t)) a)

@@ -1,15 +1,15 @@
 -- The invariant of the memory, over what is seen of it: words and start bits by area and offset, and the book's objects.
 -- Assumes nothing.
-use Prim.Native.Nat.{ℕ, zero, suc, pred, _+_, _≤_, _<_}
-use mathlib.Core.Bool.{Bool, true, false}
+use Prim.Native.Nat.{ℕ, suc, _+_, _≤_, _<_}
+use mathlib.Core.Bool.{Bool, false}
 use mathlib.Core.List.{List, [], _∷_}
-use mathlib.Core.Path.{_≡_, refl, sym, ap, _∙_, subst, subst₂, fun-ext}
+use mathlib.Core.Path.{_≡_, refl, sym, ap, _∙_, subst₂, fun-ext}
 use mathlib.Core.Logic.{_≢_, _⊎_, inl, inr, ⊎-elim}
-use lib.Dec.{ltb, leb, eqb}
+use lib.Dec.{eqb}
 use native.Mathlib.Omega.{arith}
-use borrow.Author.Tests.{ltb-true, ltb-false, leb-true, leb-false, eqb-true, eqb-false, eq-eqb, ne-eqb}
-use Rattle.layout.specs.Choice.{pick, cases}
-use Rattle.layout.specs.Handle.{handleOf, offsetOf, areaOf}
+use borrow.Author.Tests.{eqb-true, eqb-false, eq-eqb, ne-eqb}
+use Rattle.layout.specs.Choice.{cases}
+use Rattle.layout.specs.Handle.{handleOf, areaOf}
 use Rattle.layout.specs.Header.{headerOf}
 use Rattle.model.specs.Book.{Object, occurrences, handles, putAt}
 use Rattle.model.proofs.Lists.{occ-same, occ-other}

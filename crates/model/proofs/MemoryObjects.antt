@@ -17,7 +17,7 @@ use Rattle.layout.specs.HandleLaws.{offset-packed}
 use Rattle.layout.specs.Bitmap.{bitAt, withBit, cleared}
 use Rattle.layout.specs.BitmapLaws.{length-cleared, bit-with-same, bit-with-other, cleared-inside, cleared-outside}
 use Rattle.model.specs.declared.Area.{Area}
-use Rattle.model.specs.State.{State, Memory, areaAt, stackAt, current, displayAt, storeOf, withStore, wordAt, bitIndex}
+use Rattle.model.specs.State.{State, Memory, areaAt, displayAt, storeOf, withStore, wordAt, bitIndex}
 use Rattle.model.specs.Checks.{fits}
 use Rattle.model.specs.Objects.{currentAt, grown, filled, objectWords, objectBits, allocateState, allocateMemory, allocateValue}
 use Rattle.model.specs.Book.{Object, Book, putAt, bookAllocate}

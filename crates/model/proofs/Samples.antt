@@ -3,7 +3,7 @@
 use Prim.Native.Nat.{ℕ, zero, suc}
 use mathlib.Core.List.{List, [], _∷_, _++_, map}
 use mathlib.Core.Path.{_≡_, refl}
-use lib.ListN.{getD, replicate}
+use lib.ListN.{replicate}
 use Rattle.layout.specs.Choice.{refuse}
 use Rattle.layout.specs.Handle.{handleOf, offsetOf, areaOf, generationOf}
 use Rattle.layout.specs.Header.{headerOf, slotsOf, dataOf}
@@ -11,7 +11,7 @@ use Rattle.layout.specs.Bitmap.{bitAt, withBit, withoutBit, cleared}
 use Rattle.layout.specs.Rights.{classOf, rightsRows, rightDigit, allows}
 use Rattle.layout.specs.Display.{rowHolds}
 use Rattle.layout.specs.Stack.{down}
-use Rattle.model.specs.State.{State, Memory, withArea, withRow, withThread, withTaken, stackOf, innermost, isMade, displayHolds, withStore}
+use Rattle.model.specs.State.{Memory, withArea, withRow, withThread, withTaken, stackOf, innermost, isMade, displayHolds, withStore}
 use Rattle.model.specs.SetUp.{setUpStatus, firstState, setUpState}
 use Rattle.model.specs.Checks.{fits, admit, hasRight, live, isObject, isReference, useStatus}
 use Rattle.model.specs.Threads.{startStatus, startState, endStatus, endState}
@@ -19,8 +19,8 @@ use Rattle.model.specs.Scopes.{makeStatus, makeState, otherParent, worn,
 use Rattle.model.specs.Objects.{allocateStatus, allocateState, filled, objectWords, objectBits, allocateMemory, allocateValue}
 use Rattle.model.specs.References.{mayRefer, storeAfter, slotStatus, referenceStatus, storeStatus, loadStatus}
 use Rattle.model.specs.Data.{dataStatus, viewStatus, viewWords}
-use Rattle.model.specs.Calls.{Call, start, end, make, enter, exit, allocate, store, load, write, read, view, viewed, outcomeOf}
-use Rattle.model.specs.Run.{World, Line, kept, step, run, begin}
+use Rattle.model.specs.Calls.{Call, start, make, enter, exit, allocate, store, outcomeOf}
+use Rattle.model.specs.Run.{World, Line, kept, step, begin}
 
 -- 16 words each of heap and immortal, 4,096 of scratch
 memory : Memory

@@ -1,21 +1,21 @@
 -- Walks of the parents, scans of a row and displays: under a nesting they say the same.
 -- Assumes nothing.
-use Prim.Native.Nat.{ℕ, zero, suc, pred, _+_, _≤_, _<_}
-use mathlib.Core.Bool.{Bool, true, false, not, _&&_}
+use Prim.Native.Nat.{ℕ, zero, suc, _≤_, _<_}
+use mathlib.Core.Bool.{false}
 use mathlib.Core.List.{List, [], _∷_}
-use mathlib.Core.Path.{_≡_, refl, sym, ap, _∙_, subst}
+use mathlib.Core.Path.{_≡_, refl, sym, ap, _∙_}
 use mathlib.Core.Logic.{_≢_}
 use lib.ListN.{length, getD}
 use lib.Dec.{ltb, leb, eqb}
 use native.Mathlib.Omega.{arith}
-use borrow.Author.Tests.{ltb-true, ltb-false, leb-true, leb-false, eqb-true, eqb-false, lt-ltb}
-use Rattle.layout.specs.Choice.{pick, cases}
+use borrow.Author.Tests.{leb-true, leb-false, eqb-true, eqb-false, lt-ltb}
+use Rattle.layout.specs.Choice.{cases}
 use Rattle.layout.specs.Stack.{down}
 use Rattle.layout.specs.StackLaws.{length-down}
 use Rattle.model.specs.State.{current}
-use Rattle.model.specs.Book.{occurrences, total}
+use Rattle.model.specs.Book.{occurrences}
 use Rattle.model.specs.Claims.{Walk, ends, goes, Meets, here, up, InOrder, none, keep, skip, onRow, scan}
-use Rattle.model.specs.Invariant.{scopesOf, Link, Nested, Nesting}
+use Rattle.model.specs.Invariant.{scopesOf, Nested}
 use Rattle.model.proofs.Lists.{occ-same, occ-other, scopes-low, scopes-high, occ-scopes}
 
 pub scopes-order : (r : List ℕ) → InOrder (scopesOf r) r

@@ -1,6 +1,6 @@
 -- A call of any op: its status, its value, the words that it shows, the next state and the next lent words.
 -- Assumes nothing.
-use Prim.Native.Nat.{ℕ, zero, suc}
+use Prim.Native.Nat.{ℕ}
 use mathlib.Core.List.{List, []}
 use lib.Dec.{eqb}
 use Rattle.layout.specs.Choice.{pick}

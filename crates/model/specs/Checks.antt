@@ -1,10 +1,9 @@
 -- The checks with which calls begin, the rights, and liveness of a handle.
 -- Assumes nothing.
-use Prim.Native.Nat.{ℕ, zero, suc, _+_}
+use Prim.Native.Nat.{ℕ, suc, _+_}
 use mathlib.Core.Bool.{Bool, not, _&&_, _||_}
-use mathlib.Core.List.{List}
 use lib.Dec.{eqb, leb, ltb}
-use lib.ListN.{length, getD}
+use lib.ListN.{length}
 use Rattle.layout.specs.Choice.{refuse}
 use Rattle.layout.specs.Handle.{null, offsetOf, areaOf, generationOf}
 use Rattle.layout.specs.Header.{slotsOf, dataOf}

@@ -1,16 +1,16 @@
 -- What is claimed after every list of calls: the third demand, each claim a field of one record.
 -- Assumes nothing.
-use Prim.Native.Nat.{ℕ, zero, suc, _+_, _≤_, _<_}
+use Prim.Native.Nat.{ℕ, suc, _+_, _≤_, _<_}
 use mathlib.Core.Bool.{Bool, true, false}
 use mathlib.Core.List.{List, [], _∷_}
 use mathlib.Core.Path.{_≡_}
 use mathlib.Core.Logic.{_≢_, _↔_, _⊎_}
 use lib.Dec.{eqb}
 use Rattle.layout.specs.Choice.{pick}
-use Rattle.layout.specs.Handle.{null, offsetOf, areaOf}
-use Rattle.model.specs.State.{State, Memory, areaAt, stackAt, current, isOpen, displayAt, displayHolds, wordAt}
+use Rattle.layout.specs.Handle.{null, offsetOf}
+use Rattle.model.specs.State.{areaAt, stackAt, current, isOpen, displayAt, displayHolds, wordAt}
 use Rattle.model.specs.Checks.{isStarted, live}
-use Rattle.model.specs.Calls.{Call, allocate, load, Reply}
+use Rattle.model.specs.Calls.{allocate, load}
 use Rattle.model.specs.Run.{Element, Line, World, run}
 use Rattle.model.specs.Book.{Object, Book, rowOf, occurrences, total, bookOf}
 

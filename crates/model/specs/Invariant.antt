@@ -1,7 +1,6 @@
 -- The invariant of the state alone, which set-up gives and every call keeps, refused or not, whatever the lent words hold.
 -- Assumes nothing.
-use Prim.Native.Nat.{ℕ, zero, suc, _+_, _/_, _≤_, _<_}
-use mathlib.Core.Bool.{Bool}
+use Prim.Native.Nat.{ℕ, suc, _+_, _/_, _≤_, _<_}
 use mathlib.Core.List.{List, [], _∷_, map}
 use mathlib.Core.Path.{_≡_}
 use mathlib.Core.Logic.{_≢_}
@@ -9,7 +8,7 @@ use lib.ListN.{length, getD}
 use Rattle.layout.specs.Choice.{pick}
 use Rattle.layout.specs.Stack.{down}
 use Rattle.model.specs.declared.Area.{Area}
-use Rattle.model.specs.State.{Thread, State, noThread, areaAt, rowAt, threadAt, stackOf, current, innermost, isScope, displayAt}
+use Rattle.model.specs.State.{Thread, State, noThread, areaAt, stackOf, current, innermost, isScope, displayAt}
 use Rattle.model.specs.Scopes.{lastGeneration}
 use Rattle.model.specs.Book.{total}
 

@@ -1,10 +1,9 @@
 -- Ops 03, 04 and 05: scopes are made, entered and left.
 -- Assumes nothing.
-use Prim.Native.Nat.{ℕ, zero, suc, pred, _+_, _-_}
+use Prim.Native.Nat.{ℕ, suc, pred, _+_, _-_}
 use mathlib.Core.Bool.{Bool, not, _&&_, _||_}
-use mathlib.Core.List.{List, [], _∷_}
 use lib.Dec.{eqb, leb, ltb}
-use lib.ListN.{getD, set}
+use lib.ListN.{set}
 use Rattle.layout.specs.Choice.{pick, refuse}
 use Rattle.layout.specs.Display.{extendedRow}
 use Rattle.layout.specs.declared.rights.Right.the-variants.{Enter}

@@ -1,10 +1,10 @@
 -- The state and the lent memory, and how a part of them is read and replaced.
 -- Assumes nothing.
-use Prim.Native.Nat.{ℕ, zero, suc, pred, _+_}
+use Prim.Native.Nat.{ℕ, _+_}
 use mathlib.Core.Bool.{Bool, not, _&&_, _||_}
 use mathlib.Core.List.{List, [], _∷_}
-use lib.Dec.{eqb, leb, ltb}
-use lib.ListN.{length, getD, set}
+use lib.Dec.{leb, ltb}
+use lib.ListN.{getD, set}
 use Rattle.layout.specs.Choice.{pick}
 use Rattle.layout.specs.Display.{rowHolds}
 use Rattle.layout.specs.Stack.{down}
