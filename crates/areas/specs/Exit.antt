@@ -1,0 +1,104 @@
+-- Op 05: one law for each way that its checks end, and what it leaves.
+-- Assumes nothing.
+use mathlib.Core.Path.{_≡_, refl, ap, sym, _∙_}
+use mathlib.Core.Logic.{_≢_}
+use mathlib.Core.List.{List}
+use Prim.Native.Nat.{ℕ, pred, _+_, _-_, _*_, _≤_, _<_}
+use native.Mathlib.Omega.{arith}
+use native.Mathlib.Numerals.{sub-one}
+use lib.Dec.{leb}
+use lib.ListN.{getD}
+use borrow.Author.Tests.{le-leb, lt-leb, eq-eqb, ne-eqb}
+use Rattle.layout.specs.Choice.{hit, skip, pick, cases}
+use Rattle.model.specs.declared.Area.{Area}
+use Rattle.model.specs.State.{State, Memory, areaAt, threadAt, withArea, withThread, stackAt, current, isScope}
+use Rattle.model.specs.Checks.{admit}
+use Rattle.model.specs.Scopes.{exitStatus, left, leftArea, popped, exitState, exitValue}
+use Rattle.model.proofs.Accepted.{Admitted, ExitOk, exit-ok}
+use Rattle.tables.specs.Decode.{stateOf, areaOf, putArea, putLen, Sized, Holds}
+use Rattle.tables.specs.Laws.{area-read, len-read, state-area, state-len}
+use Rattle.threads.specs.Outcomes.{caller-refused, admit-rest}
+
+module _ (s : State) (m : Memory) (t : ℕ) where
+  pub exit-not-called : {n : ℕ} → n ≡ admit s m t 0 → n ≢ 0 → n ≡ exitStatus s m t
+  unfolding exitStatus
+  exit-not-called e h = caller-refused s m t e h _
+
+  module _ (a : Admitted s m t) where
+    pub exit-empty : threadAt s t .len ≡ 0 → 11 ≡ exitStatus s m t
+    unfolding exitStatus
+    exit-empty h = sym (admit-rest s m t a _ ∙ hit _ 11 0 (eq-eqb (threadAt s t .len) 0 h))
+
+    pub exit-accepted : threadAt s t .len ≢ 0 → 0 ≡ exitStatus s m t
+    unfolding exitStatus
+    exit-accepted h = sym (admit-rest s m t a _ ∙ skip _ 11 0 (ne-eqb (threadAt s t .len) 0 h))
+
+  -- n is what check_exit answers
+  pub exit-passed : {n : ℕ} → n ≡ exitStatus s m t → n ≡ 0 → ExitOk s m t
+  exit-passed e z = exit-ok s m t (sym e ∙ z)
+
+-- ---- the area
+
+pub left-more : (x : Area) → 1 < x .count
+    → record { start = x .start; size = x .size; used = x .used; generation = x .generation; count = x .count - 1; parent = x .parent; depth = x .depth } ≡ left x
+left-more x h = rw (sub-one (x .count), lt-leb (x .count) 1 h) refl
+
+pub left-last : (x : Area) → x .count ≡ 1
+    → record { start = x .start; size = x .size; used = 0; generation = x .generation; count = 0; parent = 0; depth = 0 } ≡ left x
+left-last x h = rw h refl
+
+module _ (w b : List ℕ) (z : Sized w b) (q : ℕ) where
+  pub left-standing : q < 2 → Holds w b (leftArea (stateOf w b) q)
+  unfolding leftArea
+  left-standing h = record { sized = z; state = rw (lt-leb 2 q h) refl }
+
+  pub left-scope : q < 64 → 2 ≤ q → Holds (putArea w q (left (areaOf w q))) b (leftArea (stateOf w b) q)
+  unfolding leftArea
+  left-scope k h =
+      let a = state-area w b q (left (areaOf w q)) k z in
+      record { sized = a .sized; state = a .state ∙ rw (area-read w b q k, le-leb 2 q h) refl }
+
+  pub count-standing : q < 2 → 0 ≡ pick (isScope q) (pred (areaAt (stateOf w b) q .count)) 0
+  count-standing h = rw (lt-leb 2 q h) refl
+
+  pub count-scope : q < 64 → 2 ≤ q → left (areaOf w q) .count ≡ pick (isScope q) (pred (areaAt (stateOf w b) q .count)) 0
+  count-scope k h = rw (area-read w b q k, le-leb 2 q h) refl
+
+-- a scope that is left is open, from its record in the words
+pub left-open : (w b : List ℕ) (q : ℕ) {x : Area} → q < 64 → (2 ≤ q → 0 < areaAt (stateOf w b) q .count) → x ≡ areaOf w q → 2 ≤ q → 0 < x .count
+left-open w b q k o e h = rw (area-read w b q k ∙ sym e) at (o h)
+
+-- ---- the stack
+
+pub popped-holds : (w b : List ℕ) → Sized w b → (t n : ℕ) → t < 16 → n ≡ getD w (513 + t * 2) 0
+    → Holds (putLen w t (n - 1)) b (withThread (stateOf w b) t (popped (threadAt (stateOf w b) t)))
+unfolding popped
+popped-holds w b z t n h e =
+    let l : threadAt (stateOf w b) t .len ≡ n = len-read w b t h ∙ sym e in
+    let d : n - 1 ≡ pred n = omega arith in
+    rw (l, d) (state-len w b t (pred n) h z)
+
+module _ (s : State) (q : ℕ) where
+  pub left-threads : (t : ℕ) → threadAt (leftArea s q) t ≡ threadAt s t
+  unfolding leftArea withArea
+  left-threads t = cases (leb 2 q) (λ e. rw e refl) (λ e. rw e refl)
+
+-- a stack has entries after the area as it had before
+pub left-some : (s : State) (v b : List ℕ) (t q : ℕ) → Holds v b (leftArea s q) → 0 < threadAt s t .len → 0 < threadAt (stateOf v b) t .len
+left-some s v b t q a h = rw (a .state, left-threads s q t) h
+
+-- the area, then the stack
+pub exited-holds : (w b v v′ : List ℕ) (t q : ℕ) → q ≡ current (stackAt (stateOf w b) t)
+    → Holds v b (leftArea (stateOf w b) q) → Holds v′ b (withThread (stateOf v b) t (popped (threadAt (stateOf v b) t))) → Holds v′ b (exitState (stateOf w b) t)
+unfolding exitState
+exited-holds w b v v′ t q e a k = record {
+  sized = k .sized;
+  state =
+      k .state
+      ∙ ap (λ (s : State). withThread s t (popped (threadAt s t))) (a .state)
+      ∙ rw (left-threads (stateOf w b) q t, e) refl;
+}
+
+pub exited-value : (s : State) (t q n : ℕ) → q ≡ current (stackAt s t) → n ≡ pick (isScope q) (pred (areaAt s q .count)) 0 → n ≡ exitValue s t
+unfolding exitValue
+exited-value s t q n e f = f ∙ ap (λ (a : ℕ). pick (isScope a) (pred (areaAt s a .count)) 0) e

@@ -1,0 +1,98 @@
+-- Op 03: one law for each way that its checks end, and what it leaves.
+-- Assumes nothing.
+use mathlib.Core.Path.{_≡_, refl, ap, sym, _∙_}
+use mathlib.Core.Bool.{Bool, true, false, _||_}
+use mathlib.Core.Logic.{_≢_}
+use mathlib.Core.List.{List}
+use Prim.Native.Nat.{ℕ, _+_, _-_, _≤_, _<_}
+use native.Mathlib.Omega.{arith}
+use lib.Dec.{eqb, ltb}
+use lib.ListN.{getD}
+use borrow.Author.Tests.{le-leb, lt-leb, lt-ltb, le-ltb}
+use Rattle.layout.specs.Choice.{refuse}
+use Rattle.model.specs.declared.Area.{Area}
+use Rattle.model.specs.declared.Lengths.{Lengths}
+use Rattle.model.specs.State.{State, Memory, isMade, withArea, withTaken}
+use Rattle.model.specs.Checks.{admit}
+use Rattle.model.specs.Scopes.{makeStatus, madeArea, makeState}
+use Rattle.model.proofs.Accepted.{Admitted, MakeOk, make-ok}
+use Rattle.tables.specs.Decode.{stateOf, areaOf, lengthsOf, putArea, putTaken, Sized, Holds}
+use Rattle.tables.specs.Contract.{Ready}
+use Rattle.tables.specs.Laws.{area-read, lengths-read, taken-read, state-area, state-taken}
+use Rattle.threads.specs.Outcomes.{caller-refused, admit-rest}
+
+-- the words tell whether an area is made
+made-read : (w b : List ℕ) (q : ℕ) → q < 64 → isMade (stateOf w b) q ≡ ltb q 2 || ltb 0 (areaOf w q .size)
+unfolding isMade
+made-read w b q h = ap (λ (x : Area). ltb q 2 || ltb 0 (x .size)) (area-read w b q h)
+
+-- an area of the words is made, where r says so of its record x
+pub made-is : (w b : List ℕ) (q : ℕ) → q < 64 → {r : Bool} {x : Area} → r ≡ ltb q 2 || ltb 0 (x .size) → x ≡ areaOf w q → isMade (stateOf w b) q ≡ r
+made-is w b q h e f = made-read w b q h ∙ sym (e ∙ ap (λ (x : Area). ltb q 2 || ltb 0 (x .size)) f)
+
+-- the scratch words that are not taken, where n and l are what the code reads
+module _ (w b : List ℕ) {n : ℕ} {l : Lengths} (e : n ≡ getD w 547 0) (f : l ≡ lengthsOf w) where
+  scratch-left : stateOf w b .lengths .scratch - stateOf w b .taken ≡ l .scratch - n
+  scratch-left = rw (lengths-read w b, taken-read w b, e, f) refl
+
+  pub taken-bound : Ready w b → n ≤ l .scratch
+  taken-bound r = omega (arith, r .good .placed .taken, ap (λ (x : Lengths). x .scratch) (lengths-read w b ∙ sym f), taken-read w b)
+
+  -- and z what it says of them
+  pub lacks-is : (r : ℕ) {z : Bool} → z ≡ eqb r 0 || ltb (l .scratch - n) r → eqb r 0 || ltb (stateOf w b .lengths .scratch - stateOf w b .taken) r ≡ z
+  lacks-is r h = rw scratch-left (sym h)
+
+-- the chain of an op 03, over the tests' numbers
+module _ (s : State) (m : Memory) (t q r : ℕ) where
+  pub make-not-called : {n : ℕ} → n ≡ admit s m t 0 → n ≢ 0 → n ≡ makeStatus s m t q r
+  unfolding makeStatus
+  make-not-called e h = caller-refused s m t e h _
+
+  module _ (a : Admitted s m t) where
+    pub make-low : q < 2 → 6 ≡ makeStatus s m t q r
+    unfolding makeStatus refuse
+    make-low h = sym (admit-rest s m t a _ ∙ rw (lt-ltb q 2 h))
+
+    module _ (k : 2 ≤ q) where
+      pub make-high : 64 ≤ q → 6 ≡ makeStatus s m t q r
+      unfolding makeStatus refuse
+      make-high h = sym (admit-rest s m t a _ ∙ rw (le-ltb q 2 k, le-leb 64 q h))
+
+      module _ (l : q < 64) where
+        pub make-made : isMade s q ≡ true → 7 ≡ makeStatus s m t q r
+        unfolding makeStatus refuse
+        make-made h = sym (admit-rest s m t a _ ∙ rw (le-ltb q 2 k, lt-leb 64 q l, h))
+
+        module _ (f : isMade s q ≡ false) where
+          pub make-lacking : eqb r 0 || ltb (s .lengths .scratch - s .taken) r ≡ true → 8 ≡ makeStatus s m t q r
+          unfolding makeStatus refuse
+          make-lacking h = sym (admit-rest s m t a _ ∙ rw (le-ltb q 2 k, lt-leb 64 q l, f, h))
+
+          pub make-accepted : eqb r 0 || ltb (s .lengths .scratch - s .taken) r ≡ false → 0 ≡ makeStatus s m t q r
+          unfolding makeStatus refuse
+          make-accepted h = sym (admit-rest s m t a _ ∙ rw (le-ltb q 2 k, lt-leb 64 q l, f, h))
+
+  -- n is what check_make answers
+  pub make-passed : {n : ℕ} → n ≡ makeStatus s m t q r → n ≡ 0 → MakeOk s m t q r
+  make-passed e z = make-ok s m t q r (sym e ∙ z)
+
+-- ---- what is left
+
+-- the sum of the taken words and the new ones fits
+pub taken-fits : (w b : List ℕ) (r : ℕ) {n : ℕ} → Ready w b → n ≡ getD w 547 0 → stateOf w b .taken + r ≤ stateOf w b .lengths .scratch → n + r ≤ 16384
+taken-fits w b r g e h = omega (arith, g .good .placed .scratch, taken-read w b)
+
+module _ (w b : List ℕ) (z : Sized w b) (q r : ℕ) (h : q < 64) where
+  pub made-holds : Holds (putTaken (putArea w q (madeArea (areaOf w q) (getD w 547 0) r)) (getD w 547 0 + r)) b (makeState (stateOf w b) q r)
+  unfolding makeState
+  made-holds =
+      let x : Area = madeArea (areaOf w q) (getD w 547 0) r in
+      let a : Holds (putArea w q x) b (withArea (stateOf w b) q x) = state-area w b q x h z in
+      let k : Holds (putTaken (putArea w q x) (getD w 547 0 + r)) b (withTaken (stateOf (putArea w q x) b) (getD w 547 0 + r)) = state-taken (putArea w q x) b (getD w 547 0 + r) (a .sized) in
+      record {
+        sized = k .sized;
+        state =
+            k .state
+            ∙ ap (λ (s : State). withTaken s (getD w 547 0 + r)) (a .state)
+            ∙ rw (area-read w b q h, taken-read w b) refl;
+      }

@@ -1,0 +1,25 @@
+-- `set_up` meets its contract: what its words hold satisfies the invariant, accepted or not.
+use mathlib.Core.Path.{_≡_, sym, subst}
+use Rattle.model.specs.Invariant.{Good}
+use Rattle.model.proofs.Keeps.{good-set-up}
+use borrow.Author.Needs.{needs}
+use Rattle.setup.proofs.set_up.Statement.{statement}
+use Rattle.setup.proofs.set_up.Tie as tie
+
+check-set-up-requires : tie.Need-check-set-up-requires
+check-set-up-requires c κs = search needs
+
+set-up-words-requires : tie.Need-set-up-words-requires
+set-up-words-requires c κs = search needs
+
+returns : tie.Need-returns
+returns c =
+    let h = c .set-up-words .ensures in
+    record {
+      status-is = c .before .check-set-up .ensures;
+      holds = h;
+      ready = record { sized = h .sized; good = subst Good (sym (h .state)) (good-set-up _ _ _) };
+    }
+
+pub set-up-spec : {M : Type 1} → statement M
+set-up-spec = tie.close (tie.spec check-set-up-requires set-up-words-requires returns)

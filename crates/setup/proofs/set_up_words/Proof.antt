@@ -1,0 +1,24 @@
+-- `set_up_words` meets its contract: the words hold the first state of an accepted set-up, or of one with all lengths 0.
+use mathlib.Core.Path.{_≡_, sym, _∙_}
+use Rattle.setup.specs.First.{accepted-holds, refused-holds}
+use borrow.Author.Needs.{needs}
+use Rattle.setup.proofs.set_up_words.Statement.{statement}
+use Rattle.setup.proofs.set_up_words.Tie as tie
+
+first-words-requires : tie.Need-first-words-requires
+first-words-requires c κs = search needs
+
+returns : tie.Need-returns
+returns c =
+    rw (c .first-words .ensures) (accepted-holds _ _ _ (sym (c .before .before .pre) ∙ c .before .if1 .taken))
+
+first-words-requires-2 : tie.Need-first-words-requires-2
+first-words-requires-2 c κs = search needs
+
+returns-2 : tie.Need-returns-2
+returns-2 c =
+    rw (c .first-words2 .ensures) (refused-holds _ _ _ (λ z. c .before .if1 .left (c .before .before .pre ∙ z)))
+
+pub set-up-words-spec : {M : Type 1} → statement M
+set-up-words-spec =
+    tie.close (tie.spec first-words-requires returns first-words-requires-2 returns-2)

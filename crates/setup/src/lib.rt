@@ -1,0 +1,103 @@
+// Set-up: the first state, returned by value. The buffers are lent to read, so that no word can be
+// written.
+use model::Area;
+use model::Lengths;
+ghost use mathlib.Core.Path.{_≡_};
+ghost use lib.ListN.{replicate};
+ghost use Rattle.model.specs.SetUp.{setUpStatus, setUpState, standing, lengthsOf};
+ghost use Rattle.tables.specs.Decode.{Holds};
+ghost use Rattle.tables.specs.Contract.{memoryOf};
+ghost use Rattle.setup.specs.First.{firstWords, Begun};
+
+// The status, and the two tables that hold the state.
+#[repr(C)]
+pub struct SetUp {
+    pub status: u64,
+    pub words: [u64; 548],
+    pub bytes: [u8; 3072],
+}
+
+// Heap or immortal memory.
+fn standing_area(start: u64, size: u64) -> Area
+    ensures { λ r. ⌜ r ≡ standing start size ⌝ }
+{
+    Area {
+        start,
+        size,
+        used: 0,
+        generation: 1,
+        count: 0,
+        parent: 0,
+        depth: 0,
+    }
+}
+
+// 1 unless h + i is the permanent length, no store is longer than 16,384 words, and the map has a bit
+// for each word and no word more. The sum is compared by a difference, so that nothing wraps.
+fn check_set_up(h: u64, i: u64, n: Lengths) -> u64
+    ensures { λ r. ⌜ r ≡ setUpStatus h i n ⌝ }
+{
+    if n.permanent < h {
+        return 1;
+    }
+    if n.permanent - h != i {
+        return 1;
+    }
+    if 16384 < n.permanent {
+        return 1;
+    }
+    if 16384 < n.scratch {
+        return 1;
+    }
+    if n.map != (n.permanent + n.scratch + 63) / 64 {
+        return 1;
+    }
+    0
+}
+
+// The words of the first state.
+fn first_words(h: u64, i: u64, n: Lengths) -> [u64; 548]
+    ensures { λ r. ⌜ r ≡ firstWords h i n ⌝ }
+{
+    let mut words = [0u64; 548];
+    tables::put_area(&mut words, 0, standing_area(0, h));
+    tables::put_area(&mut words, 1, standing_area(h, i));
+    tables::put_lengths(&mut words, n);
+    words
+}
+
+// The words of what set-up gives: of an accepted one, or of one with all lengths 0.
+fn set_up_words(status: u64, h: u64, i: u64, n: Lengths) -> [u64; 548]
+    requires { ⌜ status ≡ setUpStatus h i n ⌝ }
+    ensures { λ r. ⌜ Holds r (replicate 3072 0) (setUpState h i n) ⌝ }
+{
+    if status == 0 {
+        return first_words(h, i, n);
+    }
+    first_words(
+        0,
+        0,
+        Lengths {
+            permanent: 0,
+            scratch: 0,
+            map: 0,
+        },
+    )
+}
+
+pub fn set_up(permanent: &[u64], scratch: &[u64], map: &[u64], h: u64, i: u64) -> SetUp
+    ensures { λ r. ⌜ Begun (r .status) (r .words) (r .bytes) h i (lengthsOf (memoryOf (now (permanent .entry)) (now (scratch .entry)) (now (map .entry)))) ⌝ }
+{
+    let n = Lengths {
+        permanent: permanent.len() as u64,
+        scratch: scratch.len() as u64,
+        map: map.len() as u64,
+    };
+    let status = check_set_up(h, i, n);
+    let words = set_up_words(status, h, i, n);
+    SetUp {
+        status,
+        words,
+        bytes: [0u8; 3072],
+    }
+}

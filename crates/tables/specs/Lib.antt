@@ -1,0 +1,5 @@
+pub mod Cut
+pub mod Decode
+pub mod Laws
+pub mod Contract
+pub mod Blank

@@ -1,0 +1,49 @@
+// Refusals 1 and 2, with which every call begins.
+ghost use mathlib.Core.Path.{_≡_};
+ghost use Rattle.model.specs.Checks.{fits, admit};
+ghost use Rattle.tables.specs.Decode.{stateOf};
+ghost use Rattle.tables.specs.Contract.{memoryOf};
+
+// Whether the lent buffers have the lengths of set-up.
+pub fn lengths_fit(
+    words: &[u64; 548],
+    bytes: &[u8; 3072],
+    permanent: &[u64],
+    scratch: &[u64],
+    map: &[u64],
+) -> bool
+    ensures { λ r. ⌜ r ≡ fits (stateOf (now (words .entry)) (now (bytes .entry))) (memoryOf (now (permanent .entry)) (now (scratch .entry)) (now (map .entry))) ⌝ }
+{
+    let own = tables::lengths_at(words);
+    if permanent.len() as u64 != own.permanent {
+        return false;
+    }
+    if scratch.len() as u64 != own.scratch {
+        return false;
+    }
+    map.len() as u64 == own.map
+}
+
+// Refusals 1 and 2, with which every call begins.
+pub fn check_caller(
+    words: &[u64; 548],
+    bytes: &[u8; 3072],
+    permanent: &[u64],
+    scratch: &[u64],
+    map: &[u64],
+    t: u64,
+) -> u64
+    ensures { λ r. ⌜ r ≡ admit (stateOf (now (words .entry)) (now (bytes .entry))) (memoryOf (now (permanent .entry)) (now (scratch .entry)) (now (map .entry))) t 0 ⌝ }
+{
+    let fit = lengths_fit(words, bytes, permanent, scratch, map);
+    if !fit {
+        return 1;
+    }
+    if 16 <= t {
+        return 2;
+    }
+    if tables::kind_at(words, t as usize) == 0 {
+        return 2;
+    }
+    0
+}
