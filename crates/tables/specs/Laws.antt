@@ -150,10 +150,12 @@ module _ (w b : List ℕ) where
       let threads : each (threadOf w′ b′) 16 ≡ set (each (threadOf w b) 16) t h
       = each-set (threadOf w b) (threadOf w′ b′) 16 t h (z .here) (λ j l ne.
       let s : (j < t) ⊎ (t < j) = sides t j ne in
-      rw (z .words (512 + j * 2) (λ e. ne (omega arith)) (λ e. omega arith),
-      z .words (513 + j * 2) (λ e. omega arith) (λ e. ne (omega arith)),
-      cut-ext b′ b (j * 32) 32 (λ k g. z .bytes (j * 32 + k) (⊎-elim (λ y. inl (omega arith)) (λ y. inr (omega arith)) s) (inl (omega arith))),
-      cut-ext b′ b (512 + j * 32) 32 (λ k g. z .bytes (512 + j * 32 + k) (inr (omega arith)) (⊎-elim (λ y. inl (omega arith)) (λ y. inr (omega arith)) s))) refl) in
+      rw (
+        z .words (512 + j * 2) (λ e. ne (omega arith)) (λ e. omega arith),
+        z .words (513 + j * 2) (λ e. omega arith) (λ e. ne (omega arith)),
+        cut-ext b′ b (j * 32) 32 (λ k g. z .bytes (j * 32 + k) (⊎-elim (λ y. inl (omega arith)) (λ y. inr (omega arith)) s) (inl (omega arith))),
+        cut-ext b′ b (512 + j * 32) 32 (λ k g. z .bytes (512 + j * 32 + k) (inr (omega arith)) (⊎-elim (λ y. inl (omega arith)) (λ y. inr (omega arith)) s)),
+      ) refl) in
       rw (areas, rows, threads, off 544 (inr (omega arith)), off 545 (inr (omega arith)), off 546 (inr (omega arith)), off 547 (inr (omega arith))) refl
 
   -- an entry goes on a stack at a place, with the innermost scope as of it
