@@ -1,0 +1,110 @@
+-- `write` meets its contract: a refused call leaves all as it was, an accepted one writes one word.
+use mathlib.Core.Path.{_≡_, refl, sym, ap, _∙_}
+use borrow.Author.Needs.{needs}
+use denote.Ref.{now}
+use Rattle.model.specs.State.{State, Memory}
+use Rattle.tables.specs.Decode.{stateOf}
+use Rattle.tables.specs.Contract.{memoryOf}
+use native.Mathlib.Omega.{arith}
+use Prim.Native.Nat.{_+_}
+use Rattle.model.specs.Data.{dataStatus}
+use Rattle.model.specs.Calls as calls
+use Rattle.model.proofs.Accepted.{data-ok}
+use Rattle.threads.specs.Outcomes.{told-refused, told-accepted, written-refused, written-accepted}
+use Rattle.objects.specs.Found.{objectOf}
+use Rattle.access.specs.Spots.{spot-in, spot-refused}
+use Rattle.access.specs.Effects.{Room, data-room, data-stored}
+use Rattle.access.proofs.words.write.Statement.{statement}
+use Rattle.access.proofs.words.write.Tie as tie
+
+abbrev start : tie.After-check-data → tie.Start
+start c = c .before .before .before .before .before .before
+
+abbrev state : tie.After-check-data → State
+state c = stateOf (now (start c .args .words)) (now (start c .args .bytes))
+
+abbrev memory : tie.After-check-data → Memory
+memory c = memoryOf (now (start c .args .permanent)) (now (start c .args .scratch)) (now (start c .args .map))
+
+abbrev call : tie.After-check-data → calls.Call
+call c = calls.write (start c .args .t) (start c .args .p) (start c .args .q) (start c .args .word)
+
+-- what the checks answered: an object, which has the word
+abbrev past : tie.After-known-told2 → tie.After-check-data
+past c = c .before .before .before
+
+spot : (c : tie.After-known-told2) → (dataStatus (state (past c)) (memory (past c)) (start (past c) .args .t) (start (past c) .args .p) (start (past c) .args .q) ≡ 0) × (c .before .o .given .0 .0 ≡ objectOf (state (past c)) (memory (past c)) (start (past c) .args .p))
+spot c = spot-in _ (sym (c .before .o .given .1) ∙ past c .check-data .ensures)
+
+room : (c : tie.After-known-told2) → Room (memory (past c)) (c .before .o .given .0 .0) (c .before .o .given .0 .0 .slots + start (past c) .args .q)
+room c =
+    let i = start (past c) .args in
+    data-room (state (past c)) (memory (past c)) (i .p) _ (spot c .1) (start (past c) .pre .good) (i .t) (i .q) (data-ok (state (past c)) (memory (past c)) (i .t) (i .p) (i .q) (spot c .0))
+
+check-data-requires : tie.Need-check-data-requires
+check-data-requires c κs = search needs
+
+enum-known-n : tie.Need-enum-known-n
+enum-known-n c = search needs
+
+enum-known-o : tie.Need-enum-known-o
+enum-known-o c = search needs
+
+add-at : tie.Need-add-at
+add-at c = omega (arith, room (c .before) .low)
+
+add-at-2 : tie.Need-add-at-2
+add-at-2 c = omega (arith, room (c .before .before) .low)
+
+add-at-3 : tie.Need-add-at-3
+add-at-3 c = omega (arith, room (c .before .before) .low)
+
+put-word-requires : tie.Need-put-word-requires
+put-word-requires c κs = room (c .before .before .before .before) .inside
+
+same-length : tie.Need-same-length
+same-length c = search needs
+
+same-length-2 : tie.Need-same-length-2
+same-length-2 c = search needs
+
+returns : tie.Need-returns
+returns c =
+    let d = c .before .before .before in
+    let e = spot-refused _ (sym (c .before .n .given .1) ∙ d .check-data .ensures) in (
+      told-refused (state d) (memory d) (call d) (e .0) (e .1),
+      written-refused (state d) (memory d) (call d) (e .0) (e .1),
+    )
+
+same-length-3 : tie.Need-same-length-3
+same-length-3 c = search needs
+
+same-length-4 : tie.Need-same-length-4
+same-length-4 c = search needs
+
+returns-2 : tie.Need-returns-2
+returns-2 c =
+    let k = c .before .before .before .before .before .before .before .before .before in
+    let d = past k in (
+      told-accepted (state d) (memory d) (call d) (sym (spot k .0)) refl refl refl,
+      written-accepted (state d) (memory d) (call d) (sym (spot k .0)) refl
+          (data-stored (state d) (memory d) (start d .args .p) _ (spot k .1) (start d .args .q) (start d .args .word) (c .before .before .before .before .put-word .ensures)),
+    )
+
+pub write-spec : {M : Type 1} → statement M
+write-spec =
+    tie.close
+    (tie.spec
+    check-data-requires
+    enum-known-n
+    enum-known-o
+    add-at
+    add-at-2
+    add-at-3
+    put-word-requires
+    same-length
+    same-length-2
+    returns
+    same-length-3
+    same-length-4
+    returns-2)

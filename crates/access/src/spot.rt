@@ -1,0 +1,61 @@
+// What the calls on an object have in common: refusals 1, 2, 13 and 5, and a word that is written.
+use layout::rights;
+use layout::rights::Right;
+use objects::Found;
+use objects::Object;
+ghost use mathlib.Core.Path.{_≡_};
+ghost use Prim.Native.Nat.{ℕ, _<_};
+ghost use lib.ListN.{length, set};
+ghost use Rattle.layout.specs.Choice.{pick};
+ghost use Rattle.model.specs.State.{isScope};
+ghost use Rattle.model.specs.Checks.{useStatus};
+ghost use Rattle.tables.specs.Decode.{stateOf};
+ghost use Rattle.tables.specs.Contract.{memoryOf, Ready};
+ghost use Rattle.objects.specs.Found.{objectOf};
+ghost use Rattle.objects.specs.Stores.{Stored};
+ghost use Rattle.access.specs.Spots.{spotOf};
+
+// The object of a call, or the refusal of the call.
+pub enum Spot {
+    In(Object),
+    Refused(u64),
+}
+
+// Refusals 1, 2, 13 and 5, with which every call on an object begins.
+pub fn check_use(
+    words: &[u64; 548],
+    bytes: &[u8; 3072],
+    permanent: &[u64],
+    scratch: &[u64],
+    map: &[u64],
+    t: u64,
+    p: u64,
+) -> Spot
+    requires { ⌜ Ready (now words) (now bytes) ⌝ }
+    ensures { λ r. ⌜ r ≡ spotOf (objectOf (stateOf (now (words .entry)) (now (bytes .entry))) (memoryOf (now (permanent .entry)) (now (scratch .entry)) (now (map .entry))) p) (useStatus (stateOf (now (words .entry)) (now (bytes .entry))) (memoryOf (now (permanent .entry)) (now (scratch .entry)) (now (map .entry))) t p 0) ⌝ }
+{
+    let n = threads::check_caller(words, bytes, permanent, scratch, map, t);
+    if n != 0 {
+        return Spot::Refused(n);
+    }
+    let Found::At(o) = objects::lookup(words, bytes, permanent, scratch, map, p) else {
+        return Spot::Refused(13);
+    };
+    let kind = tables::kind_at(words, t as usize);
+    if !rights::allowed(kind, rights::class_of(o.area), Right::Use) {
+        return Spot::Refused(5);
+    }
+    Spot::In(o)
+}
+
+// A word into the store that has an area's words.
+pub fn put_word(permanent: &mut [u64], scratch: &mut [u64], area: u64, at: usize, word: u64)
+    requires { ⌜ at < length (pick (isScope area) (now scratch) (now permanent)) ⌝ }
+    ensures { λ r. ⌜ Stored (now (permanent .exit)) (now (scratch .exit)) (now (permanent .entry)) (now (scratch .entry)) area (set (pick (isScope area) (now (scratch .entry)) (now (permanent .entry))) at word) ⌝ }
+{
+    if area < 2 {
+        permanent[at] = word;
+        return;
+    }
+    scratch[at] = word;
+}

@@ -1,0 +1,97 @@
+-- `lookup` meets its contract: one law for each way that it ends.
+use mathlib.Core.Path.{_≡_, refl, sym, ap, _∙_}
+use Prim.Native.Nat.{_<_}
+use native.Mathlib.Omega.{arith}
+use borrow.Author.Needs.{needs}
+use denote.Ref.{now}
+use Rattle.layout.specs.HandleLaws.{area-lt}
+use Rattle.model.specs.State.{Memory}
+use Rattle.tables.specs.Laws.{area-read}
+use Rattle.tables.specs.Contract.{memoryOf}
+use Rattle.objects.specs.Steps.{Read, area-low, offset-low, other-generation, past-used, word-low, bit-low, word-in, bit-in, no-bit, ends}
+use Rattle.objects.proofs.find.lookup.Statement.{statement}
+use Rattle.objects.proofs.find.lookup.Tie as tie
+
+area-requires : tie.Need-area-requires
+area-requires c κs = search needs
+
+offset-requires : tie.Need-offset-requires
+offset-requires c κs = search needs
+
+low : (c : tie.After-offset) → c .before .area .result < 64
+low c = rw (c .before .area .ensures) (area-lt (c .before .before .before .before .before .args .handle))
+
+area-at-requires : tie.Need-area-at-requires
+area-at-requires c κs = low c
+
+generation-requires : tie.Need-generation-requires
+generation-requires c κs = search needs
+
+-- the entry, and what has been read past the call of area_at
+abbrev start : tie.After-area-at → tie.Start
+start c = c .before .before .before .before .before .before
+
+abbrev memory : tie.After-area-at → Memory
+memory c = memoryOf (now (start c .args .permanent)) (now (start c .args .scratch)) (now (start c .args .map))
+
+read : (c : tie.After-area-at) → Read (now (start c .args .words)) (now (start c .args .bytes)) (memory c) (start c .args .handle) (c .before .before .area .result) (c .before .offset .result) (c .area-at .result)
+read c = record {
+  ready = start c .pre .0;
+  fitting = start c .pre .1;
+  area-is = c .before .before .area .ensures;
+  offset-is = c .before .offset .ensures;
+  record-is = c .area-at .ensures ∙ sym (area-read (now (start c .args .words)) (now (start c .args .bytes)) (c .before .before .area .result) (low (c .before)));
+}
+
+returns : tie.Need-returns
+returns c = other-generation _ _ _ _ _ _ _ (read (c .before .before .before)) _ (c .before .before .generation .ensures) (c .if1 .taken)
+
+returns-2 : tie.Need-returns-2
+returns-2 c = past-used _ _ _ _ _ _ _ (read (c .before .before .before .before .before)) (c .if2 .taken)
+
+add-at : tie.Need-add-at
+add-at c = omega (arith, word-low _ _ _ _ _ _ _ (read (c .before .before .before .before .before .before)) (c .before .if2 .left))
+
+bit-index-requires : tie.Need-bit-index-requires
+bit-index-requires c κs = bit-low _ _ _ _ _ _ _ (read (c .before .before .before .before .before .before)) (c .before .if2 .left)
+
+bit-requires : tie.Need-bit-requires
+bit-requires c κs = bit-in _ _ _ _ _ _ _ (read (c .before .before .before .before .before .before .before)) (c .before .before .if2 .left) _ (c .bit-index .ensures)
+
+returns-3 : tie.Need-returns-3
+returns-3 c =
+    no-bit _ _ _ _ _ _ _ (read (c .before .before .before .before .before .before .before .before .before)) (c .before .before .before .before .if2 .left) _ (c .before .before .bit-index .ensures)
+    (sym (c .before .bit .ensures) ∙ c .if3 .taken)
+
+word-at-requires : tie.Need-word-at-requires
+word-at-requires c κs = word-in _ _ _ _ _ _ _ (read (c .before .before .before .before .before .before .before .before .before)) (c .before .before .before .before .if2 .left)
+
+whole-requires : tie.Need-whole-requires
+whole-requires c κs = offset-low _ _ _ _ _ _ _ (read (c .before .before .before .before .before .before .before .before .before .before))
+
+returns-4 : tie.Need-returns-4
+returns-4 c =
+    let r = read (c .before .before .before .before .before .before .before .before .before .before .before) in
+    c .whole .ensures
+    ∙ rw (c .before .word-at .ensures)
+    (ends _ _ _ _ _ _ _ r (c .before .before .before .before .before .before .if2 .left) _ (c .before .before .before .before .bit-index .ensures)
+    (sym (c .before .before .before .before .before .before .before .before .before .before .generation .ensures) ∙ c .before .before .before .before .before .before .before .before .if1 .left)
+    (λ z. c .before .before .if3 .left (c .before .before .before .bit .ensures ∙ z)))
+
+pub lookup-spec : {M : Type 1} → statement M
+lookup-spec =
+    tie.close
+    (tie.spec
+    area-requires
+    offset-requires
+    area-at-requires
+    generation-requires
+    returns
+    returns-2
+    add-at
+    bit-index-requires
+    bit-requires
+    returns-3
+    word-at-requires
+    whole-requires
+    returns-4)

@@ -1,0 +1,37 @@
+-- The object that a handle leads to.
+-- Assumes nothing.
+use Prim.Native.Nat.{ℕ, suc, _+_}
+use lib.Dec.{leb}
+use Rattle.layout.specs.Choice.{pick}
+use Rattle.layout.specs.Handle.{offsetOf, areaOf}
+use Rattle.layout.specs.Header.{slotsOf, dataOf}
+use Rattle.model.specs.State.{State, Memory, areaAt}
+use Rattle.model.specs.Checks.{headerAt, live}
+use Rattle.objects.specs.declared.find.Object.{Object}
+use Rattle.objects.specs.declared.find.Found.{Found}
+use Rattle.objects.specs.declared.find.Found.the-variants.{At, Nothing}
+
+-- the object that a live handle leads to: its header lies at the handle's offset in the handle's area, and says its sizes
+unfoldable pub objectOf : State → Memory → ℕ → Object
+objectOf s m h = record {
+  area = areaOf h;
+  at = areaAt s (areaOf h) .start + offsetOf h;
+  slots = slotsOf (headerAt s m h);
+  words = dataOf (headerAt s m h);
+}
+
+unfoldable pub foundOf : State → Memory → ℕ → Found
+foundOf s m h = pick (live s m h) (At (objectOf s m h)) Nothing
+
+-- the number of each case: "An object's handle that does not resolve to an object ends the call with 13; for a target or a loaded word other
+-- than null it is 15"
+abbrev pub refusalOf : ℕ → Found → ℕ
+refusalOf n (At o) = 0
+refusalOf n Nothing = n
+
+-- the object of a header at an offset, where it "ends within the used words"
+unfoldable pub endsOf : ℕ → ℕ → ℕ → ℕ → ℕ → Found
+endsOf header area at offset used =
+    pick (leb (suc (offset + slotsOf header + dataOf header)) used)
+    (At (record { area = area; at = at; slots = slotsOf header; words = dataOf header }))
+    Nothing

@@ -1,0 +1,19 @@
+-- The rights of a thread, as they are read from the tables.
+-- Assumes nothing.
+use Prim.Native.Nat.{ℕ, _+_, _*_, _<_}
+use mathlib.Core.Bool.{Bool}
+use mathlib.Core.List.{List}
+use mathlib.Core.Path.{_≡_, refl, sym, ap, _∙_}
+use lib.ListN.{getD}
+use Rattle.layout.specs.Rights.{classOf, allows}
+use Rattle.layout.specs.declared.rights.Class.{Class}
+use Rattle.layout.specs.declared.rights.Right.{Right}
+use Rattle.model.specs.Checks.{hasRight}
+use Rattle.tables.specs.Decode.{stateOf}
+use Rattle.tables.specs.Laws.{kind-read}
+
+-- n is a thread's kind, c the class of an area, z what the table says
+pub right-read : (w b : List ℕ) (t a : ℕ) (r : Right) → t < 16 → {z : Bool} {n : ℕ} {c : Class} → z ≡ allows n c r → n ≡ getD w (512 + t * 2) 0 → c ≡ classOf a
+    → hasRight (stateOf w b) t r a ≡ z
+unfolding hasRight
+right-read w b t a r h e k c = rw (kind-read w b t h, ← k, ← c) (sym e)

@@ -1,0 +1,46 @@
+-- Two stores, of which one is written: that of an area.
+-- Assumes nothing.
+use Prim.Native.Nat.{ℕ, suc, _+_, _%_, _≤_, _<_}
+use mathlib.Core.Bool.{Bool, true, false}
+use mathlib.Core.List.{List}
+use mathlib.Core.Path.{_≡_, refl, sym, ap, _∙_}
+use native.Mathlib.Omega.{arith}
+use native.Mathlib.Numerals.{add-one}
+use lib.Dec.{leb}
+use lib.ListN.{set}
+use borrow.Author.Tests.{le-leb, lt-leb}
+use Rattle.layout.specs.Choice.{pick}
+use Rattle.layout.specs.Header.{headerOf}
+use Rattle.layout.specs.Bitmap.{withBit, cleared}
+use Rattle.model.specs.State.{Memory, isScope, withStore}
+use Rattle.model.specs.Objects.{filled, objectWords, objectBits}
+use Rattle.tables.specs.Contract.{memoryOf}
+
+-- the stores p and s, where that of area a has become l
+pub record Stored (p′ s′ p s : List ℕ) (a : ℕ) (l : List ℕ) : Type 0 where
+  pub permanent-is : p′ ≡ pick (isScope a) p l
+  pub scratch-is : s′ ≡ pick (isScope a) l s
+
+pub stored-permanent : (p s : List ℕ) (a : ℕ) (f : List ℕ → List ℕ) → a < 2 → Stored (f p) s p s a (f (pick (isScope a) s p))
+stored-permanent p s a f h = record { permanent-is = rw (lt-leb 2 a h); scratch-is = rw (lt-leb 2 a h) }
+
+pub stored-scratch : (p s : List ℕ) (a : ℕ) (f : List ℕ → List ℕ) → 2 ≤ a → Stored p (f s) p s a (f (pick (isScope a) s p))
+stored-scratch p s a f h = record { permanent-is = rw (le-leb 2 a h); scratch-is = rw (le-leb 2 a h) }
+
+-- the memory that they make
+pub stored-memory : {p′ s′ p s l : List ℕ} {a : ℕ} → Stored p′ s′ p s a l → (m : List ℕ) → memoryOf p′ s′ m ≡ withStore (memoryOf p s m) a l
+unfolding withStore
+stored-memory z m = rw (z .permanent-is, z .scratch-is) refl
+
+-- an object that is written: its words in a store, its bits in the map
+pub object-written : (l : List ℕ) (at slots words : ℕ) → slots < 16384 → words < 16384
+    → set (filled l (at + 1) (slots + words) 0) at (headerOf (slots % 16384) (words % 16384)) ≡ objectWords l at slots words
+unfolding objectWords
+object-written l at slots words hs hd =
+    let es : slots % 16384 ≡ slots = omega arith in
+    let ed : words % 16384 ≡ words = omega arith in
+    rw (es, ed, add-one) refl
+
+pub object-marked : (l : List ℕ) (bit n : ℕ) → withBit (cleared l (bit + 1) n) bit ≡ objectBits l bit n
+unfolding objectBits
+object-marked l bit n = rw add-one refl
