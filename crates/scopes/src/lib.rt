@@ -1,0 +1,49 @@
+// The core: a call of any op, carried out in place on the tables and the buffers that are lent.
+use layout::stack::Answer;
+ghost use Prim.Native.Nat.{ℕ};
+ghost use Rattle.tables.specs.Contract.{Ready};
+ghost use Rattle.scopes.specs.Step.{callOf, Carried};
+
+// The ops, 01 to 0a.
+pub enum Op {
+    Start,
+    End,
+    Make,
+    Enter,
+    Exit,
+    Allocate,
+    Store,
+    Load,
+    Write,
+    Read,
+}
+
+// A step of the machine: the answer, the tables and the buffers are those of the definition.
+pub fn carry_out(
+    words: &mut [u64; 548],
+    bytes: &mut [u8; 3072],
+    permanent: &mut [u64],
+    scratch: &mut [u64],
+    map: &mut [u64],
+    op: Op,
+    t: u64,
+    p: u64,
+    q: u64,
+    r: u64,
+) -> Answer
+    requires { ⌜ Ready (now words) (now bytes) ⌝ }
+    ensures { λ a. ⌜ Carried (now (words .entry)) (now (bytes .entry)) (now (permanent .entry)) (now (scratch .entry)) (now (map .entry)) (now (words .exit)) (now (bytes .exit)) (now (permanent .exit)) (now (scratch .exit)) (now (map .exit)) (callOf op t p q r) (a .status) (a .value) ⌝ }
+{
+    match op {
+        Op::Start => threads::start(words, bytes, permanent, scratch, map, t, p),
+        Op::End => threads::end(words, bytes, permanent, scratch, map, t),
+        Op::Make => areas::make::make(words, bytes, permanent, scratch, map, t, q, r),
+        Op::Enter => areas::enter::enter(words, bytes, permanent, scratch, map, t, q),
+        Op::Exit => areas::exit::exit(words, bytes, permanent, scratch, map, t),
+        Op::Allocate => objects::allocate(words, bytes, permanent, scratch, map, t, q, r),
+        Op::Store => access::store(words, bytes, permanent, scratch, map, t, p, q, r),
+        Op::Load => access::load(words, bytes, permanent, scratch, map, t, p, q),
+        Op::Write => access::write(words, bytes, permanent, scratch, map, t, p, q, r),
+        Op::Read => access::read(words, bytes, permanent, scratch, map, t, p, q)
+    }
+}
