@@ -18,7 +18,6 @@ fn check_exit(
     map: &[u64],
     t: u64,
 ) -> u64
-    requires { ⌜ Ready (now words) (now bytes) ⌝ }
     ensures { λ n. ⌜ n ≡ exitStatus (stateOf (now (words .entry)) (now (bytes .entry))) (memoryOf (now (permanent .entry)) (now (scratch .entry)) (now (map .entry))) t ⌝ }
 {
     let n = threads::check_caller(words, bytes, permanent, scratch, map, t);

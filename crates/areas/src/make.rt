@@ -20,7 +20,7 @@ pub fn is_made(x: Area, q: u64) -> bool
     0 < x.size
 }
 
-// No scope has no words, or more than are left.
+// Whether a size is 0, or above the scratch words that are left.
 fn lacks(left: u64, r: u64) -> bool
     ensures { λ n. ⌜ n ≡ (eqb r 0 || ltb left r) ⌝ }
 {

@@ -49,7 +49,7 @@ show-requires : tie.Need-show-requires
 show-requires c κs =
     let o = c .before .before .before .before .before .before .before .before .before in
     let a = o .args in
-    (o .pre .1 .area, o .pre .1 .parent, depth-room (now (a .words)) (now (a .bytes)) (a .q) (a .p) (o .pre .1) (c .before .before .area-at2 .ensures))
+    (search needs, search needs, depth-room (now (a .words)) (now (a .bytes)) (a .q) (a .p) (o .pre .1) (c .before .before .area-at2 .ensures))
 
 put-area-requires-2 : tie.Need-put-area-requires-2
 put-area-requires-2 c κs = search needs

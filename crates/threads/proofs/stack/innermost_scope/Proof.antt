@@ -23,7 +23,7 @@ inner-at-requires : tie.Need-inner-at-requires
 inner-at-requires c κs =
     let o = c .before .before in
     let a = o .args in
-    (o .pre .1, omega (arith, length-bound (now (a .words)) (now (a .bytes)) (o .pre .0) (a .t) (o .pre .1) _ (c .before .len-at .ensures)))
+    (search needs, omega (arith, length-bound (now (a .words)) (now (a .bytes)) (o .pre .0) (a .t) (o .pre .1) _ (c .before .len-at .ensures)))
 
 returns-2 : tie.Need-returns-2
 returns-2 c =

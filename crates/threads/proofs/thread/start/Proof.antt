@@ -17,14 +17,14 @@ check-start-requires c κs = search needs
 put-kind-requires : tie.Need-put-kind-requires
 put-kind-requires c κs =
     let a = c .before .before .before .before .before .before .before .args in
-    start-thread (stateOf (now (a .words)) (now (a .bytes))) (memoryOf (now (a .permanent)) (now (a .scratch)) (now (a .map))) (a .t) (a .kind) (c .before .before .check-start .ensures) (c .before .if1 .taken)
+    start-thread (stateOf (now (a .words)) (now (a .bytes))) (memoryOf (now (a .permanent)) (now (a .scratch)) (now (a .map))) (a .t) _ (c .before .before .check-start .ensures) (c .before .if1 .taken)
 
 returns : tie.Need-returns
 returns c =
     let o = c .before .before .before .before .before .before .before .before in
     let a = o .args in
     let m = memoryOf (now (a .permanent)) (now (a .scratch)) (now (a .map)) in
-    let h : a .t < 16 = start-thread (stateOf (now (a .words)) (now (a .bytes))) m (a .t) (a .kind) (c .before .before .before .check-start .ensures) (c .before .before .if1 .taken) in
+    let h : a .t < 16 = start-thread (stateOf (now (a .words)) (now (a .bytes))) m (a .t) _ (c .before .before .before .check-start .ensures) (c .before .before .if1 .taken) in
     done-accepted (now (a .words)) (now (a .bytes)) m (calls.start (a .t) (a .kind)) (o .pre) (c .before .before .before .check-start .ensures) (c .before .before .if1 .taken) refl
     (rw (c .put-kind .ensures) (kind-started (now (a .words)) (now (a .bytes)) (o .pre .sized) (a .t) h (a .kind)))
 
