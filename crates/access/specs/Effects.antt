@@ -1,15 +1,12 @@
 -- The words of a found object: where they lie, and what a word written there leaves.
 -- Assumes nothing.
-use Prim.Native.Nat.{ℕ, suc, _+_, _≤_, _<_}
-use mathlib.Core.Bool.{Bool, true}
+use Prim.Native.Nat.{ℕ, _+_, _<_}
 use mathlib.Core.List.{List}
 use mathlib.Core.Path.{_≡_, refl, sym, ap, _∙_, subst}
 use native.Mathlib.Omega.{arith}
 use lib.ListN.{length, getD, set}
-use Rattle.layout.specs.Choice.{pick}
 use Rattle.layout.specs.Handle.{areaOf, offsetOf}
-use Rattle.model.specs.State.{State, Memory, areaAt, isScope, storeOf, withStore}
-use Rattle.model.specs.Checks.{fits, live, headerAt}
+use Rattle.model.specs.State.{State, Memory, areaAt, storeOf}
 use Rattle.model.specs.References.{placeAfter, wordAfter, storeAfter}
 use Rattle.model.specs.Data.{dataIndex}
 use Rattle.model.specs.Invariant.{Good}

@@ -1,12 +1,11 @@
 -- One law for each way that the checks of ops 07 to 0a end.
 -- Assumes nothing.
-use Prim.Native.Nat.{ℕ, zero, suc, _+_, _≤_, _<_}
-use mathlib.Core.Bool.{Bool, true, false, not, _&&_, _||_, true≢false}
+use Prim.Native.Nat.{ℕ, _≤_, _<_}
+use mathlib.Core.Bool.{true, false, not, _||_, true≢false}
 use mathlib.Core.List.{List}
 use mathlib.Core.Path.{_≡_, refl, sym, ap, _∙_}
 use mathlib.Core.Logic.{_≢_}
-use native.Mathlib.Omega.{arith}
-use lib.Dec.{eqb, leb, ltb}
+use lib.Dec.{eqb, leb}
 use borrow.Author.Tests.{eqb-true, le-leb, lt-leb, lt-ltb, le-ltb, eq-eqb, ne-eqb}
 use Rattle.layout.specs.Choice.{refuse, cases, hit, skip}
 use Rattle.layout.specs.Handle.{null, areaOf}
@@ -14,8 +13,8 @@ use Rattle.layout.specs.Header.{slotsOf, dataOf}
 use Rattle.layout.specs.Display.{rowHolds}
 use Rattle.layout.specs.declared.rights.Right.the-variants.{Use, Refer}
 use Rattle.model.specs.declared.Area.{Area}
-use Rattle.model.specs.State.{State, Memory, areaAt, rowAt, displayHolds}
-use Rattle.model.specs.Checks.{admit, hasRight, headerAt, live, isObject, isReference, useStatus}
+use Rattle.model.specs.State.{State, Memory, areaAt, displayHolds}
+use Rattle.model.specs.Checks.{admit, hasRight, headerAt, isObject, isReference, useStatus}
 use Rattle.model.specs.References.{mayRefer, wordAfter, slotStatus, referenceStatus, storeStatus, loadStatus}
 use Rattle.model.specs.Data.{dataStatus}
 use Rattle.model.specs.Invariant.{Good}

@@ -1,7 +1,7 @@
 -- Op 06: one law for each way that its checks end, and what it leaves.
 -- Assumes nothing.
-use Prim.Native.Nat.{ℕ, suc, _+_, _-_, _*_, _%_, _/_, _^_, _≤_, _<_}
-use mathlib.Core.Bool.{Bool, true, false, not}
+use Prim.Native.Nat.{ℕ, suc, _+_, _*_, _%_, _^_, _≤_, _<_}
+use mathlib.Core.Bool.{true, false, not}
 use mathlib.Core.List.{List}
 use mathlib.Core.Logic.{_≢_}
 use mathlib.Core.Path.{_≡_, refl, sym, ap, _∙_}
@@ -9,7 +9,7 @@ use native.Mathlib.Omega.{arith}
 use lib.Dec.{leb, ltb}
 use lib.ListN.{length}
 use borrow.Author.Tests.{lt-ltb, le-ltb, leb-true, leb-false}
-use Rattle.layout.specs.Choice.{pick, refuse, cases, hit, skip}
+use Rattle.layout.specs.Choice.{pick, cases, hit, skip}
 use Rattle.layout.specs.Handle.{handleOf}
 use Rattle.layout.specs.declared.rights.Right.the-variants.{Allocate}
 use Rattle.model.specs.declared.Area.{Area}
@@ -17,12 +17,12 @@ use Rattle.model.specs.State.{State, Memory, areaAt, isScope, storeOf, bitIndex
 use Rattle.model.specs.Checks.{admit, hasRight}
 use Rattle.model.specs.Objects.{currentAt, allocateStatus, allocateState, allocateMemory, allocateValue, objectWords, objectBits, grown}
 use Rattle.model.specs.Invariant.{Good}
-use Rattle.model.proofs.Accepted.{Admitted, AllocateOk, allocate-ok}
+use Rattle.model.proofs.Accepted.{Admitted, AllocateOk}
 use Rattle.tables.specs.Decode.{stateOf, putArea, Holds}
 use Rattle.tables.specs.Laws.{state-area}
 use Rattle.tables.specs.Contract.{Ready, memoryOf}
 use Rattle.threads.specs.Outcomes.{caller-refused, admit-rest}
-use Rattle.objects.specs.Places.{Within, within, Lent, lent}
+use Rattle.objects.specs.Places.{Within, within, lent}
 use Rattle.objects.specs.Stores.{Stored, stored-memory}
 use Rattle.model.proofs.Bounds.{current-area}
 

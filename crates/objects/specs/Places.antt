@@ -1,8 +1,8 @@
 -- Where the words of an area lie in the lent memory, and what a live handle has passed.
 -- Assumes nothing.
-use Prim.Native.Nat.{ℕ, zero, suc, _+_, _*_, _/_, _≤_, _<_}
-use mathlib.Core.Bool.{Bool, true, false, not, _&&_, _||_}
-use mathlib.Core.Path.{_≡_, refl, sym, ap, _∙_}
+use Prim.Native.Nat.{ℕ, zero, suc, _+_, _*_, _≤_, _<_}
+use mathlib.Core.Bool.{true, false, not, _||_}
+use mathlib.Core.Path.{_≡_, refl, sym, _∙_}
 use mathlib.Core.Logic.{_≢_}
 use native.Mathlib.Omega.{arith}
 use lib.Dec.{eqb, leb, ltb}
@@ -10,14 +10,13 @@ use lib.ListN.{length}
 use borrow.Author.Tests.{ltb-true, ltb-false, leb-true, leb-false, eqb-true, eq-eqb, ne-eqb, lt-ltb, le-leb}
 use Rattle.layout.specs.Choice.{pick, refuse, cases, pick-true, pick-false, and-true}
 use Rattle.layout.specs.Handle.{null, offsetOf, areaOf, generationOf}
-use Rattle.layout.specs.HandleLaws.{area-lt, offset-lt, slots-lt, data-lt}
+use Rattle.layout.specs.HandleLaws.{area-lt, slots-lt, data-lt}
 use Rattle.layout.specs.Header.{slotsOf, dataOf}
 use Rattle.layout.specs.Bitmap.{bitAt}
 use Rattle.model.specs.State.{State, Memory, areaAt, isScope, isOpen, storeOf, bitIndex}
 use Rattle.model.specs.Checks.{fits, headerAt, live, isObject, isReference}
 use Rattle.model.specs.Invariant.{Good}
 use Rattle.objects.specs.declared.find.Object.{Object}
-use Rattle.objects.specs.declared.find.Found.{Found}
 use Rattle.objects.specs.declared.find.Found.the-variants.{At, Nothing}
 use Rattle.objects.specs.Found.{objectOf, foundOf, refusalOf}
 

@@ -1,7 +1,7 @@
 -- One law for each way that a lookup ends, over what its code has read.
 -- Assumes nothing.
-use Prim.Native.Nat.{ℕ, suc, _+_, _*_, _/_, _%_, _^_, _≤_, _<_}
-use mathlib.Core.Bool.{Bool, true, false}
+use Prim.Native.Nat.{ℕ, suc, _+_, _/_, _≤_, _<_}
+use mathlib.Core.Bool.{true}
 use mathlib.Core.List.{List}
 use mathlib.Core.Path.{_≡_, refl, sym, ap, _∙_}
 use native.Mathlib.Omega.{arith}
@@ -21,7 +21,7 @@ use Rattle.tables.specs.Decode.{stateOf}
 use Rattle.tables.specs.Contract.{Ready}
 use Rattle.objects.specs.declared.find.Found.the-variants.{At, Nothing}
 use Rattle.objects.specs.Found.{objectOf, foundOf, endsOf}
-use Rattle.objects.specs.Places.{Lent, lent, Within, within, Live, found-at, found-nothing}
+use Rattle.objects.specs.Places.{lent, Within, within, found-at, found-nothing}
 
 -- ---- the last step
 

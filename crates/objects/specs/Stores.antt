@@ -1,18 +1,16 @@
 -- Two stores, of which one is written: that of an area.
 -- Assumes nothing.
-use Prim.Native.Nat.{ℕ, suc, _+_, _%_, _≤_, _<_}
-use mathlib.Core.Bool.{Bool, true, false}
+use Prim.Native.Nat.{ℕ, _+_, _%_, _≤_, _<_}
 use mathlib.Core.List.{List}
-use mathlib.Core.Path.{_≡_, refl, sym, ap, _∙_}
+use mathlib.Core.Path.{_≡_, refl}
 use native.Mathlib.Omega.{arith}
 use native.Mathlib.Numerals.{add-one}
-use lib.Dec.{leb}
 use lib.ListN.{set}
 use borrow.Author.Tests.{le-leb, lt-leb}
 use Rattle.layout.specs.Choice.{pick}
 use Rattle.layout.specs.Header.{headerOf}
 use Rattle.layout.specs.Bitmap.{withBit, cleared}
-use Rattle.model.specs.State.{Memory, isScope, withStore}
+use Rattle.model.specs.State.{isScope, withStore}
 use Rattle.model.specs.Objects.{filled, objectWords, objectBits}
 use Rattle.tables.specs.Contract.{memoryOf}
 

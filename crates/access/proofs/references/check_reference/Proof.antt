@@ -1,11 +1,10 @@
 -- `check_reference` meets its contract: one law for each way that it ends.
-use mathlib.Core.Path.{_≡_, refl, sym, ap, _∙_}
+use mathlib.Core.Path.{_≡_, sym, _∙_}
 use borrow.Author.Needs.{needs}
 use denote.Ref.{now}
 use Rattle.model.specs.State.{State, Memory}
 use Rattle.tables.specs.Decode.{stateOf}
 use Rattle.tables.specs.Contract.{memoryOf}
-use native.Mathlib.Omega.{arith}
 use borrow.Author.Tests.{not-true, not-false}
 use Rattle.layout.specs.declared.rights.Right.the-variants.{Refer}
 use Rattle.model.specs.Checks.{hasRight}

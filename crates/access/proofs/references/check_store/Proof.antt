@@ -1,5 +1,5 @@
 -- `check_store` meets its contract: one law for each way that it ends.
-use mathlib.Core.Path.{_≡_, refl, sym, ap, _∙_}
+use mathlib.Core.Path.{_≡_, sym, ap, _∙_}
 use borrow.Author.Needs.{needs}
 use denote.Ref.{now}
 use Rattle.model.specs.State.{State, Memory}
@@ -7,7 +7,7 @@ use Rattle.tables.specs.Decode.{stateOf}
 use Rattle.tables.specs.Contract.{memoryOf}
 use native.Mathlib.Omega.{arith}
 use borrow.Author.Tests.{not-true, not-false}
-use Prim.Native.Nat.{ℕ, _<_}
+use Prim.Native.Nat.{ℕ}
 use Rattle.layout.specs.Handle.{areaOf}
 use Rattle.layout.specs.HandleLaws.{area-lt}
 use Rattle.model.specs.References.{mayRefer, slotStatus}

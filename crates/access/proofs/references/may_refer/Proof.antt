@@ -1,5 +1,5 @@
 -- `may_refer` meets its contract: heap and immortal, a target that stands deeper, and one look.
-use mathlib.Core.Path.{_≡_, refl, sym, ap, _∙_}
+use mathlib.Core.Path.{sym, ap, _∙_}
 use native.Mathlib.Omega.{arith}
 use borrow.Author.Needs.{needs}
 use denote.Ref.{now}

@@ -1,5 +1,5 @@
 -- `view` meets its contract: no word where the call is refused, else the object's data words where they lie.
-use mathlib.Core.Path.{_≡_, refl, sym, ap, _∙_}
+use mathlib.Core.Path.{_≡_, sym, _∙_}
 use borrow.Author.Needs.{needs}
 use denote.Ref.{now}
 use Rattle.model.specs.State.{State, Memory}

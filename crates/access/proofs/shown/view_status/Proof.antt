@@ -1,11 +1,10 @@
 -- `view_status` meets its contract: the number of each case of what check_use answers.
-use mathlib.Core.Path.{_≡_, refl, sym, ap, _∙_}
+use mathlib.Core.Path.{refl, sym, _∙_}
 use borrow.Author.Needs.{needs}
 use denote.Ref.{now}
 use Rattle.model.specs.State.{State, Memory}
 use Rattle.tables.specs.Decode.{stateOf}
 use Rattle.tables.specs.Contract.{memoryOf}
-use Rattle.model.specs.Data.{viewStatus}
 use Rattle.model.specs.Calls as calls
 use Rattle.threads.specs.Outcomes.{told-refused, told-accepted}
 use Rattle.access.specs.Spots.{spot-in, spot-refused}

@@ -1,5 +1,5 @@
 -- `write` meets its contract: a refused call leaves all as it was, an accepted one writes one word.
-use mathlib.Core.Path.{_≡_, refl, sym, ap, _∙_}
+use mathlib.Core.Path.{_≡_, refl, sym, _∙_}
 use borrow.Author.Needs.{needs}
 use denote.Ref.{now}
 use Rattle.model.specs.State.{State, Memory}

@@ -1,11 +1,10 @@
 -- `apply_allocate` meets its contract: the object's words and bits lie in the current area, which has room for them.
-use mathlib.Core.Path.{_≡_, refl, sym, ap, _∙_}
-use Prim.Native.Nat.{ℕ, _≤_, _<_}
+use mathlib.Core.Path.{_≡_, sym, _∙_}
+use Prim.Native.Nat.{_<_}
 use native.Mathlib.Omega.{arith}
 use borrow.Author.Needs.{needs}
 use denote.Ref.{now}
-use Rattle.model.specs.State.{State, Memory, areaAt}
-use Rattle.model.specs.Objects.{currentAt}
+use Rattle.model.specs.State.{Memory, areaAt}
 use Rattle.tables.specs.Decode.{stateOf}
 use Rattle.tables.specs.Laws.{area-read}
 use Rattle.tables.specs.Contract.{memoryOf}

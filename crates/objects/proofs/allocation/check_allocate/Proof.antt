@@ -1,14 +1,13 @@
 -- `check_allocate` meets its contract: one law for each way that it ends.
-use mathlib.Core.Path.{_≡_, refl, sym, ap, _∙_}
+use mathlib.Core.Path.{_≡_, sym, ap, _∙_}
 use mathlib.Core.Bool.{true}
-use Prim.Native.Nat.{ℕ, _≤_, _<_}
+use Prim.Native.Nat.{_≤_, _<_}
 use native.Mathlib.Omega.{arith}
 use borrow.Author.Needs.{needs}
 use borrow.Author.Tests.{not-true, not-false}
 use denote.Ref.{now}
 use Rattle.layout.specs.Rights.{classOf}
 use Rattle.layout.specs.declared.rights.Right.the-variants.{Allocate}
-use Rattle.model.specs.declared.Area.{Area}
 use Rattle.model.specs.State.{State, Memory, areaAt}
 use Rattle.model.specs.Checks.{hasRight}
 use Rattle.model.specs.Objects.{currentAt}

@@ -1,12 +1,11 @@
 -- `lay_object` meets its contract: each branch writes the store that the test picks.
-use mathlib.Core.Path.{_≡_, refl, sym, ap, _∙_, subst}
 use mathlib.Core.List.{List}
 use Prim.Native.Nat.{ℕ}
 use borrow.Author.Needs.{needs}
 use borrow.Author.Tests.{le-leb, lt-leb}
 use denote.Ref.{now}
 use Rattle.model.specs.Objects.{objectWords}
-use Rattle.objects.specs.Stores.{Stored, stored-permanent, stored-scratch}
+use Rattle.objects.specs.Stores.{stored-permanent, stored-scratch}
 use Rattle.objects.proofs.allocation.lay_object.Statement.{statement}
 use Rattle.objects.proofs.allocation.lay_object.Tie as tie
 

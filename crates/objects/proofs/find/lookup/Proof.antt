@@ -1,5 +1,5 @@
 -- `lookup` meets its contract: one law for each way that it ends.
-use mathlib.Core.Path.{_≡_, refl, sym, ap, _∙_}
+use mathlib.Core.Path.{sym, _∙_}
 use Prim.Native.Nat.{_<_}
 use native.Mathlib.Omega.{arith}
 use borrow.Author.Needs.{needs}
@@ -8,7 +8,7 @@ use Rattle.layout.specs.HandleLaws.{area-lt}
 use Rattle.model.specs.State.{Memory}
 use Rattle.tables.specs.Laws.{area-read}
 use Rattle.tables.specs.Contract.{memoryOf}
-use Rattle.objects.specs.Steps.{Read, area-low, offset-low, other-generation, past-used, word-low, bit-low, word-in, bit-in, no-bit, ends}
+use Rattle.objects.specs.Steps.{Read, offset-low, other-generation, past-used, word-low, bit-low, word-in, bit-in, no-bit, ends}
 use Rattle.objects.proofs.find.lookup.Statement.{statement}
 use Rattle.objects.proofs.find.lookup.Tie as tie
 

@@ -1,5 +1,4 @@
 -- `word_at` meets its contract: each branch reads the store that the test picks.
-use mathlib.Core.Path.{_≡_, sym, ap}
 use borrow.Author.Needs.{needs}
 use borrow.Author.Tests.{le-leb, lt-leb}
 use Prim.Native.Nat.{_<_}
