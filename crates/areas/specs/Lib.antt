@@ -1,5 +1,3 @@
--- The laws of the calls of scopes.
+-- The laws of ops 03 and 05.
 pub mod Make
-pub mod Enter
-pub mod Entered
 pub mod Exit

@@ -1,4 +1,3 @@
-// The calls of scopes: made, entered and left.
+// The calls of scopes: made and left. (Crate `entry` has how one is entered.)
 pub mod make; // make.rt: op 03
-pub mod enter; // enter.rt: op 04
 pub mod exit; // exit.rt: op 05

@@ -6,16 +6,6 @@ use native.Mathlib.Omega.{arith}
 use lib.Bits.{bitAnd, bitOr, and-mask, or-shifted}
 use Rattle.layout.specs.Handle.{handleOf}
 use Rattle.layout.specs.Header.{headerOf}
-use Rattle.layout.specs.Bitmap.{withDigit, withoutDigit}
-use Rattle.layout.specs.Digits.{one-shl, or-pow, and-not-pow}
-
--- `x | 1 << k`
-pub or-one : (x k : ℕ) → k < 64 → bitOr x (1 * 2 ^ k % 2 ^ 64) ≡ withDigit x k
-or-one x k h = rw (one-shl k h) (or-pow x k)
-
--- `x & !(1 << k)`
-pub and-not-one : (x k : ℕ) → x < 2 ^ 64 → k < 64 → bitAnd x (2 ^ 64 - 1 - 1 * 2 ^ k % 2 ^ 64) ≡ withoutDigit x k
-and-not-one x k hx h = rw (one-shl k h) (and-not-pow x k hx h)
 
 -- `(d & 0x3fff) << 14 | s & 0x3fff`
 pub two-fields : (s d : ℕ) → bitOr (bitAnd d 0x3fff * 2 ^ 14 % 2 ^ 64) (bitAnd s 0x3fff) ≡ headerOf (s % 2 ^ 14) (d % 2 ^ 14)

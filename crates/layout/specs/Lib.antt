@@ -3,9 +3,6 @@ pub mod Choice
 pub mod Handle
 pub mod Header
 pub mod HandleLaws
-pub mod Bitmap
-pub mod Digits
-pub mod BitmapLaws
 pub mod Rights
 pub mod Display
 pub mod DisplayLaws

@@ -14,8 +14,8 @@ use Rattle.layout.specs.Choice.{cases}
 use Rattle.layout.specs.Handle.{handleOf, areaOf}
 use Rattle.layout.specs.Header.{headerOf}
 use Rattle.layout.specs.HandleLaws.{offset-packed}
-use Rattle.layout.specs.Bitmap.{bitAt, withBit, cleared}
-use Rattle.layout.specs.BitmapLaws.{length-cleared, bit-with-same, bit-with-other, cleared-inside, cleared-outside}
+use Rattle.bitmap.specs.Bitmap.{bitAt, withBit, cleared}
+use Rattle.bitmap.specs.BitmapLaws.{length-cleared, bit-with-same, bit-with-other, cleared-inside, cleared-outside}
 use Rattle.model.specs.declared.Area.{Area}
 use Rattle.model.specs.State.{State, Memory, areaAt, displayAt, storeOf, withStore, wordAt, bitIndex}
 use Rattle.model.specs.Checks.{fits}

@@ -7,7 +7,7 @@ use lib.ListN.{replicate}
 use Rattle.layout.specs.Choice.{refuse}
 use Rattle.layout.specs.Handle.{handleOf, offsetOf, areaOf, generationOf}
 use Rattle.layout.specs.Header.{headerOf, slotsOf, dataOf}
-use Rattle.layout.specs.Bitmap.{bitAt, withBit, withoutBit, cleared}
+use Rattle.bitmap.specs.Bitmap.{bitAt, withBit, withoutBit, cleared}
 use Rattle.layout.specs.Rights.{classOf, rightsRows, rightDigit, allows}
 use Rattle.layout.specs.Display.{rowHolds}
 use Rattle.layout.specs.Stack.{down}

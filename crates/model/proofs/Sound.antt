@@ -6,7 +6,7 @@ use mathlib.Core.List.{[]}
 use mathlib.Core.Path.{_≡_}
 use lib.Dec.{eqb}
 use Rattle.layout.specs.Handle.{areaOf, generationOf}
-use Rattle.layout.specs.Bitmap.{bitAt}
+use Rattle.bitmap.specs.Bitmap.{bitAt}
 use Rattle.model.specs.State.{State, Memory, areaAt, displayAt, wordAt, bitIndex}
 use Rattle.model.specs.Checks.{fits, isStarted}
 use Rattle.model.specs.Book.{Book, occurrences}

@@ -7,7 +7,7 @@ use lib.ListN.{length}
 use Rattle.layout.specs.Choice.{refuse}
 use Rattle.layout.specs.Handle.{null, offsetOf, areaOf, generationOf}
 use Rattle.layout.specs.Header.{slotsOf, dataOf}
-use Rattle.layout.specs.Bitmap.{bitAt}
+use Rattle.bitmap.specs.Bitmap.{bitAt}
 use Rattle.layout.specs.Rights.{classOf, allows}
 use Rattle.layout.specs.declared.rights.Right.{Right}
 use Rattle.layout.specs.declared.rights.Right.the-variants.{Use}

@@ -12,7 +12,7 @@ use Rattle.layout.specs.Choice.{pick, refuse, cases, pick-true, pick-false, and
 use Rattle.layout.specs.Handle.{null, offsetOf, areaOf, generationOf}
 use Rattle.layout.specs.HandleLaws.{area-lt, slots-lt, data-lt}
 use Rattle.layout.specs.Header.{slotsOf, dataOf}
-use Rattle.layout.specs.Bitmap.{bitAt}
+use Rattle.bitmap.specs.Bitmap.{bitAt}
 use Rattle.model.specs.State.{State, Memory, areaAt, isScope, isOpen, storeOf, bitIndex}
 use Rattle.model.specs.Checks.{fits, headerAt, live, isObject, isReference}
 use Rattle.model.specs.Invariant.{Good}

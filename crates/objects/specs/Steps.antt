@@ -12,7 +12,7 @@ use Rattle.layout.specs.Choice.{pick, cases, pick-true, pick-false}
 use Rattle.layout.specs.Handle.{offsetOf, areaOf, generationOf}
 use Rattle.layout.specs.HandleLaws.{area-lt, offset-lt}
 use Rattle.layout.specs.Header.{slotsOf, dataOf}
-use Rattle.layout.specs.Bitmap.{bitAt}
+use Rattle.bitmap.specs.Bitmap.{bitAt}
 use Rattle.model.specs.declared.Area.{Area}
 use Rattle.model.specs.State.{State, Memory, areaAt, isScope, storeOf, bitIndex}
 use Rattle.model.specs.Checks.{fits, headerAt}

@@ -9,7 +9,7 @@ use lib.ListN.{set}
 use borrow.Author.Tests.{le-leb, lt-leb}
 use Rattle.layout.specs.Choice.{pick}
 use Rattle.layout.specs.Header.{headerOf}
-use Rattle.layout.specs.Bitmap.{withBit, cleared}
+use Rattle.bitmap.specs.Bitmap.{withBit, cleared}
 use Rattle.model.specs.State.{isScope, withStore}
 use Rattle.model.specs.Objects.{filled, objectWords, objectBits}
 use Rattle.tables.specs.Contract.{memoryOf}

@@ -1,6 +1,5 @@
 // Op 06: an object is allocated in the current area of a thread.
 use crate::find;
-use layout::bitmap;
 use layout::handle;
 use layout::rights;
 use layout::rights::Right;

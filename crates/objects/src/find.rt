@@ -86,7 +86,7 @@ pub fn lookup(
         return Found::Nothing;
     }
     let at = (x.start + offset) as usize;
-    if layout::bitmap::bit(map, bit_index(permanent.len(), area, at)) == 0 {
+    if bitmap::bit(map, bit_index(permanent.len(), area, at)) == 0 {
         return Found::Nothing;
     }
     let header = word_at(permanent, scratch, area, at);

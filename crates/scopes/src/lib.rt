@@ -38,7 +38,7 @@ pub fn carry_out(
         Op::Start => threads::start(words, bytes, permanent, scratch, map, t, p),
         Op::End => threads::end(words, bytes, permanent, scratch, map, t),
         Op::Make => areas::make::make(words, bytes, permanent, scratch, map, t, q, r),
-        Op::Enter => areas::enter::enter(words, bytes, permanent, scratch, map, t, q),
+        Op::Enter => entry::enter(words, bytes, permanent, scratch, map, t, q),
         Op::Exit => areas::exit::exit(words, bytes, permanent, scratch, map, t),
         Op::Allocate => objects::allocate(words, bytes, permanent, scratch, map, t, q, r),
         Op::Store => access::store(words, bytes, permanent, scratch, map, t, p, q, r),

@@ -1,0 +1,3 @@
+-- The laws of op 04.
+pub mod Enter
+pub mod Entered

@@ -1,0 +1,197 @@
+// Op 04: an area is entered.
+use areas::make;
+use layout::display::Depth;
+use layout::rights::Right;
+use layout::stack::Answer;
+use layout::stack::Place;
+use model::Area;
+ghost use mathlib.Core.Path.{_≡_};
+ghost use Prim.Native.Nat.{_<_, _≤_};
+ghost use Rattle.layout.specs.Choice.{pick};
+ghost use Rattle.layout.specs.Display.{extendedRow};
+ghost use Rattle.model.specs.State.{isScope, threadAt};
+ghost use Rattle.model.specs.Scopes.{lastGeneration, enterStatus, reentered, opened, enteredArea, enterState, enterValue};
+ghost use Rattle.model.specs.Calls as calls;
+ghost use Rattle.tables.specs.Decode.{stateOf, rowOf, putRow, Sized, Holds};
+ghost use Rattle.tables.specs.Contract.{memoryOf, Ready, Done};
+ghost use Rattle.entry.specs.Enter.{entryStatus, Openable, Enterable, pushedState};
+
+// The last generation of a scope, 2^44 - 1.
+const LAST_GENERATION: u64 = 17592186044415;
+
+// ---- the refusals
+
+// Those that speak of a thread and an area that are there.
+fn check_entry(kind: u64, len: u64, inner: u64, x: Area, q: u64) -> u64
+    ensures { λ n. ⌜ n ≡ entryStatus kind len inner x q ⌝ }
+{
+    if !make::is_made(x, q) {
+        return 6;
+    }
+    let allowed = layout::rights::allowed(kind, layout::rights::class_of(q), Right::Enter);
+    if !allowed {
+        return 5;
+    }
+    if 32 <= len {
+        return 9;
+    }
+    if q < 2 {
+        return 0;
+    }
+    if 0 < x.count {
+        if x.parent != inner {
+            return 10;
+        }
+        return 0;
+    }
+    if LAST_GENERATION <= x.generation {
+        return 17;
+    }
+    0
+}
+
+fn check_enter(
+    words: &[u64; 548],
+    bytes: &[u8; 3072],
+    permanent: &[u64],
+    scratch: &[u64],
+    map: &[u64],
+    t: u64,
+    q: u64,
+) -> u64
+    requires { ⌜ Ready (now words) (now bytes) ⌝ }
+    ensures { λ n. ⌜ n ≡ enterStatus (stateOf (now (words .entry)) (now (bytes .entry))) (memoryOf (now (permanent .entry)) (now (scratch .entry)) (now (map .entry))) t q ⌝ }
+{
+    let n = threads::check_caller(words, bytes, permanent, scratch, map, t);
+    if n != 0 {
+        return n;
+    }
+    if 64 <= q {
+        return 6;
+    }
+    let kind = tables::kind_at(words, t as usize);
+    let len = tables::len_at(words, t as usize);
+    let inner = threads::innermost_scope(words, bytes, t as usize);
+    let x = tables::area_at(words, q as usize);
+    check_entry(kind, len, inner as u64, x, q)
+}
+
+// ---- the area
+
+// An open scope with one entry more.
+fn reentered_area(x: Area) -> Area
+    requires { ⌜ x .count ≤ 512 ⌝ }
+    ensures { λ r. ⌜ r ≡ reentered x ⌝ }
+{
+    let mut y = x;
+    y.count = x.count + 1;
+    y
+}
+
+// A scope that opens one deeper than its parent.
+fn opened_area(x: Area, parent: u64, depth: Depth) -> Area
+    requires { ⌜ (x .generation < lastGeneration) × (depth .0 < 32) ⌝ }
+    ensures { λ r. ⌜ r ≡ opened x parent (depth .0) ⌝ }
+{
+    Area {
+        start: x.start,
+        size: x.size,
+        used: 0,
+        generation: x.generation + 1,
+        count: 1,
+        parent: parent,
+        depth: depth.0 as u64 + 1,
+    }
+}
+
+// The display of scope q, which opens below p: that of p, with q last.
+fn show(bytes: &mut [u8; 3072], q: usize, p: usize, depth: Depth)
+    requires { ⌜ (q < 64) × (p < 64) × (depth .0 < 32) ⌝ }
+    ensures { λ u. ⌜ now (bytes .exit) ≡ putRow (now (bytes .entry)) q (extendedRow (rowOf (now (bytes .entry)) p) (depth .0) q) ⌝ }
+{
+    let row = tables::row_at(bytes, p);
+    tables::put_row(bytes, q, layout::display::extended(row, depth, q as u8));
+}
+
+// Area q is entered where p is the innermost scope; its generation after that.
+fn enter_area(words: &mut [u64; 548], bytes: &mut [u8; 3072], q: usize, p: usize) -> u64
+    requires { ⌜ Sized (now words) (now bytes) × Openable (stateOf (now words) (now bytes)) q p ⌝ }
+    ensures { λ r. ⌜ r ≡ enterValue (stateOf (now (words .entry)) (now (bytes .entry))) q ⌝ }
+    ensures { λ r. ⌜ Holds (now (words .exit)) (now (bytes .exit)) (enteredArea (stateOf (now (words .entry)) (now (bytes .entry))) q p) ⌝ }
+{
+    let x = tables::area_at(words, q);
+    if q < 2 {
+        return x.generation;
+    }
+    if 0 < x.count {
+        tables::put_area(words, q, reentered_area(x));
+        return x.generation;
+    }
+    let depth = Depth(tables::area_at(words, p).depth as usize);
+    let y = opened_area(x, p as u64, depth);
+    show(bytes, q, p, depth);
+    tables::put_area(words, q, y);
+    y.generation
+}
+
+// ---- the stack
+
+// The innermost scope as of an entry of area q, where p was it before.
+fn inner_after(q: u8, p: u8) -> u8
+    ensures { λ r. ⌜ r ≡ pick (isScope q) q p ⌝ }
+{
+    if 2 <= q {
+        return q;
+    }
+    p
+}
+
+// Area q goes on top of a stack, and beside it the innermost scope as of that entry.
+fn push(words: &mut [u64; 548], bytes: &mut [u8; 3072], t: usize, q: u8, inner: u8)
+    requires { ⌜ Sized (now words) (now bytes) × (t < 16) × (threadAt (stateOf (now words) (now bytes)) t .len < 32) ⌝ }
+    ensures { λ u. ⌜ Holds (now (words .exit)) (now (bytes .exit)) (pushedState (stateOf (now (words .entry)) (now (bytes .entry))) t q inner) ⌝ }
+{
+    let len = tables::len_at(words, t) as usize;
+    let top = Place(len);
+    tables::put_entry(bytes, t, top, q);
+    tables::put_inner(bytes, t, top, inner);
+    tables::put_len(words, t, len as u64 + 1);
+}
+
+// ---- the call
+
+fn apply_enter(words: &mut [u64; 548], bytes: &mut [u8; 3072], t: usize, q: usize) -> u64
+    requires { ⌜ Ready (now words) (now bytes) × Enterable (stateOf (now words) (now bytes)) t q ⌝ }
+    ensures { λ r. ⌜ r ≡ enterValue (stateOf (now (words .entry)) (now (bytes .entry))) q ⌝ }
+    ensures { λ r. ⌜ Holds (now (words .exit)) (now (bytes .exit)) (enterState (stateOf (now (words .entry)) (now (bytes .entry))) t q) ⌝ }
+{
+    let inner = threads::innermost_scope(words, bytes, t);
+    let generation = enter_area(words, bytes, q, inner as usize);
+    push(words, bytes, t, q as u8, inner_after(q as u8, inner));
+    generation
+}
+
+pub fn enter(
+    words: &mut [u64; 548],
+    bytes: &mut [u8; 3072],
+    permanent: &[u64],
+    scratch: &[u64],
+    map: &[u64],
+    t: u64,
+    q: u64,
+) -> Answer
+    requires { ⌜ Ready (now words) (now bytes) ⌝ }
+    ensures { λ r. ⌜ Done (r .status) (r .value) (now (words .exit)) (now (bytes .exit)) (calls.outcomeOf (stateOf (now (words .entry)) (now (bytes .entry))) (memoryOf (now (permanent .entry)) (now (scratch .entry)) (now (map .entry))) (calls.enter t q)) ⌝ }
+{
+    let n = check_enter(words, bytes, permanent, scratch, map, t, q);
+    if n != 0 {
+        return Answer {
+            status: n,
+            value: 0,
+        };
+    }
+    Answer {
+        status: 0,
+        value: apply_enter(words, bytes, t as usize, q as usize),
+    }
+}

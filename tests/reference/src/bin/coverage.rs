@@ -1,0 +1,393 @@
+//! `coverage FIRST_SEED LISTS COUNT` runs generated lists and prints how often each op gave each
+//! status, which lines were no frames, and which situations came up. It ends with status 1 if one
+//! that can come up never did.
+
+use std::collections::BTreeMap;
+use std::process::exit;
+
+use reference::calls::{Call, Op};
+use reference::frame;
+use reference::layout::{Handle, NULL};
+use reference::machine::Machine;
+use reference::rights::{has_right, Right};
+use reference::state::{is_scope, State, AREAS, HEAP, IMMORTAL, STACK_ENTRIES, THREADS};
+use reference::{arguments, generator};
+
+/// The statuses that frames can reach, for ops 01 to 0a. Refusal 1 needs other lengths, 17 needs
+/// 2^44 - 1 entries, and op 08 yields no 15.
+const REACHABLE: [&[u64]; 10] = [
+    &[0, 2, 3, 4],
+    &[0, 2, 11],
+    &[0, 2, 6, 7, 8],
+    &[0, 2, 5, 6, 9, 10],
+    &[0, 2, 11],
+    &[0, 2, 5, 12],
+    &[0, 2, 5, 13, 14, 15, 16],
+    &[0, 2, 5, 13, 14],
+    &[0, 2, 5, 13, 14],
+    &[0, 2, 5, 13, 14],
+];
+
+/// The ways in which a line is no frame.
+const SPOILT: [&str; 17] = [
+    "empty",
+    "byte above 7f",
+    "NUL",
+    "carriage return",
+    "blank",
+    "upper case",
+    "another byte",
+    "short",
+    "long",
+    "longer than 64 KiB",
+    "op that does not exist",
+    "unused field of op 01",
+    "unused field of op 02 or 05",
+    "unused field of op 03 or 06",
+    "unused field of op 04",
+    "unused field of op 08 or 0a",
+    "last line feed missing",
+];
+
+/// What the lists are meant to bring about.
+const SITUATIONS: [&str; 34] = [
+    "stack of 32 entries",
+    "32 scopes on one stack",
+    "10 where the stack is not empty",
+    "9 that hides a 10",
+    "9 for an ordinary thread",
+    "9 for a no-heap thread",
+    "scope entered by two threads",
+    "scope entered by four threads",
+    "scope opened a second time",
+    "scope opened a tenth time",
+    "parent passed over heap or immortal",
+    "area filled to its last word",
+    "all scratch words taken",
+    "all 62 scopes made",
+    "07 within one scope",
+    "07 of an ancestor's object",
+    "07 of a heap object",
+    "07 of an immortal object",
+    "07 of null",
+    "07 by a thread in neither scope",
+    "16 of a descendant's object",
+    "16 of another branch's object",
+    "16 in heap or immortal",
+    "07 gives 5 for U",
+    "07 gives 5 for R",
+    "07 gives 5 for R before 16",
+    "08 gives 5 for U",
+    "08 gives 5 for R",
+    "08 yields a reference",
+    "08 yields null to a no-heap thread",
+    "13 or 15 for a dead handle",
+    "13 or 15 for a number never given",
+    "13 or 15 for a place inside an object",
+    "several faults in one call",
+];
+
+#[derive(Default)]
+struct Coverage {
+    statuses: BTreeMap<(u64, u64), u64>,
+    spoilt: BTreeMap<&'static str, u64>,
+    situations: BTreeMap<&'static str, u64>,
+}
+
+fn main() {
+    let [first, lists, count] = arguments::numbers("coverage FIRST_SEED LISTS COUNT");
+    let mut coverage = Coverage::default();
+    for seed in first..first + lists {
+        coverage.add_list(&generator::list(seed, count));
+    }
+    coverage.print_statuses();
+    print_counts("lines that are no frames (18)", &SPOILT, &coverage.spoilt);
+    print_counts("situations", &SITUATIONS, &coverage.situations);
+    let missing = coverage.missing();
+    println!("{missing} not reached");
+    exit(i32::from(missing > 0));
+}
+
+impl Coverage {
+    fn add_list(&mut self, list: &[u8]) {
+        let mut machine = Machine::for_frames();
+        let mut given = Vec::new();
+        for line in frame::lines(list) {
+            match frame::parse(line) {
+                Some(call) => self.add_call(&mut machine, &mut given, call),
+                None => count(&mut self.spoilt, fault_of(line)),
+            }
+        }
+        if !list.is_empty() && !list.ends_with(b"\n") {
+            count(&mut self.spoilt, "last line feed missing");
+        }
+    }
+
+    fn add_call(&mut self, machine: &mut Machine, given: &mut Vec<u64>, call: Call) {
+        let before = machine.state.clone();
+        let faults = faults(machine, call);
+        let answer = machine.run(call);
+        let (op, p, _, r) = frame::fields(call.op);
+        *self.statuses.entry((op, answer.status)).or_default() += 1;
+        if faults > 1 {
+            count(&mut self.situations, "several faults in one call");
+        }
+        match answer.status {
+            0 => self.add_accepted(&before, &machine.state, call, answer.value),
+            5 => self.add_right(&before, call),
+            9 | 10 => self.add_entry_refused(&before, call, answer.status),
+            13 => self.add_dead(&before, given, p),
+            15 => self.add_dead(&before, given, r),
+            16 => self.add_forbidden(&before, p, r),
+            _ => {}
+        }
+        if let (Op::Allocate { .. }, 0) = (call.op, answer.status) {
+            given.push(answer.value);
+        }
+    }
+
+    fn add_accepted(&mut self, before: &State, after: &State, call: Call, value: u64) {
+        match call.op {
+            Op::Make { .. } => self.add_made(after),
+            Op::Enter { area } => self.add_entry(before, after, call.thread, area),
+            Op::Allocate { .. } => self.add_filled(after, call.thread),
+            Op::Store { object, target, .. } => self.add_store(before, call.thread, object, target),
+            Op::Load { .. } => self.add_load(before, call.thread, value),
+            _ => {}
+        }
+    }
+
+    fn note(&mut self, happened: bool, situation: &'static str) {
+        if happened {
+            count(&mut self.situations, situation);
+        }
+    }
+
+    fn add_made(&mut self, after: &State) {
+        let full = after.scratch_taken == after.lengths.scratch;
+        self.note(full, "all scratch words taken");
+        let all_made = after.areas.iter().all(|area| area.made);
+        self.note(all_made, "all 62 scopes made");
+    }
+
+    fn add_entry(&mut self, before: &State, after: &State, thread: u64, area: u64) {
+        let stack = &after.thread(thread).stack;
+        let scopes = stack.iter().filter(|&&area| is_scope(area)).count();
+        let entered = after.area(area);
+        let opened = is_scope(area) && entered.count == 1;
+        self.note(stack.len() == STACK_ENTRIES, "stack of 32 entries");
+        self.note(scopes == STACK_ENTRIES, "32 scopes on one stack");
+        self.note(entered.count == 2, "scope entered by two threads");
+        self.note(entered.count == 4, "scope entered by four threads");
+        self.note(
+            opened && entered.generation == 2,
+            "scope opened a second time",
+        );
+        self.note(
+            opened && entered.generation == 10,
+            "scope opened a tenth time",
+        );
+        let top_is_parent = before.thread(thread).stack.last() == entered.parent.as_ref();
+        let passed_over = opened && entered.parent.is_some() && !top_is_parent;
+        self.note(passed_over, "parent passed over heap or immortal");
+    }
+
+    fn add_filled(&mut self, after: &State, thread: u64) {
+        let area = after.area(after.current_area(thread));
+        self.note(area.used == area.size, "area filled to its last word");
+    }
+
+    fn add_store(&mut self, state: &State, thread: u64, holder: u64, target: u64) {
+        let (from, to) = (area_of(holder), area_of(target));
+        if target == NULL {
+            return self.note(true, "07 of null");
+        }
+        self.note(is_scope(to) && from == to, "07 within one scope");
+        self.note(is_scope(to) && from != to, "07 of an ancestor's object");
+        self.note(to == HEAP, "07 of a heap object");
+        self.note(to == IMMORTAL, "07 of an immortal object");
+        let stack = &state.thread(thread).stack;
+        let in_neither = !stack.contains(&from) && !stack.contains(&to);
+        self.note(
+            is_scope(to) && in_neither,
+            "07 by a thread in neither scope",
+        );
+    }
+
+    fn add_load(&mut self, state: &State, thread: u64, value: u64) {
+        self.note(value != NULL, "08 yields a reference");
+        let no_heap = state.thread(thread).kind.map(|kind| kind as u64) == Some(3);
+        self.note(
+            value == NULL && no_heap,
+            "08 yields null to a no-heap thread",
+        );
+    }
+
+    fn add_right(&mut self, state: &State, call: Call) {
+        let (op, object, _, target) = frame::fields(call.op);
+        let Some(kind) = state.thread(call.thread).kind else {
+            return;
+        };
+        let usable = has_right(kind, area_of(object), Right::Use);
+        self.note(op == 0x07 && !usable, "07 gives 5 for U");
+        self.note(op == 0x07 && usable, "07 gives 5 for R");
+        let forbidden = !state.may_hold(area_of(object), area_of(target));
+        self.note(
+            op == 0x07 && usable && forbidden,
+            "07 gives 5 for R before 16",
+        );
+        self.note(op == 0x08 && !usable, "08 gives 5 for U");
+        self.note(op == 0x08 && usable, "08 gives 5 for R");
+    }
+
+    fn add_entry_refused(&mut self, state: &State, call: Call, status: u64) {
+        let Op::Enter { area } = call.op else { return };
+        let thread = state.thread(call.thread);
+        let innermost = state.innermost_scope(call.thread);
+        let wrong_parent = state.is_open(area) && state.area(area).parent != innermost;
+        let kind = thread.kind.map(|kind| kind as u64);
+        self.note(
+            status == 10 && !thread.stack.is_empty(),
+            "10 where the stack is not empty",
+        );
+        self.note(status == 9 && wrong_parent, "9 that hides a 10");
+        self.note(status == 9 && kind == Some(1), "9 for an ordinary thread");
+        self.note(status == 9 && kind == Some(3), "9 for a no-heap thread");
+    }
+
+    fn add_dead(&mut self, state: &State, given: &[u64], word: u64) {
+        let handle = Handle::unpack(word);
+        let area = state.area(handle.area);
+        let inside = handle.generation == area.generation && handle.offset < area.used;
+        self.note(inside, "13 or 15 for a place inside an object");
+        let was_given = given.contains(&word);
+        self.note(was_given, "13 or 15 for a dead handle");
+        self.note(
+            !was_given && word != NULL,
+            "13 or 15 for a number never given",
+        );
+    }
+
+    fn add_forbidden(&mut self, state: &State, holder: u64, target: u64) {
+        let (from, to) = (area_of(holder), area_of(target));
+        let descendant = state.walk(to).any(|met| met == from);
+        self.note(!is_scope(from), "16 in heap or immortal");
+        self.note(is_scope(from) && descendant, "16 of a descendant's object");
+        self.note(
+            is_scope(from) && !descendant,
+            "16 of another branch's object",
+        );
+    }
+
+    fn print_statuses(&self) {
+        let statuses: Vec<u64> = [0].into_iter().chain(2..=16).collect();
+        print!("op");
+        for status in &statuses {
+            print!("{status:>8}");
+        }
+        println!();
+        for op in 1..=10 {
+            print!("{op:02x}");
+            for status in &statuses {
+                match self.statuses.get(&(op, *status)) {
+                    Some(times) => print!("{times:>8}"),
+                    None => print!("{:>8}", "."),
+                }
+            }
+            println!();
+        }
+    }
+
+    /// How many of the statuses, spoilt lines and situations never came up.
+    fn missing(&self) -> usize {
+        let statuses = (1..).zip(REACHABLE).flat_map(|(op, statuses)| {
+            let pairs = statuses.iter().map(move |&status| (op, status));
+            pairs.collect::<Vec<_>>()
+        });
+        statuses.filter(|p| !self.statuses.contains_key(p)).count()
+            + absent(&SPOILT, &self.spoilt)
+            + absent(&SITUATIONS, &self.situations)
+    }
+}
+
+fn absent(names: &[&'static str], counts: &BTreeMap<&'static str, u64>) -> usize {
+    names
+        .iter()
+        .filter(|name| !counts.contains_key(*name))
+        .count()
+}
+
+fn print_counts(title: &str, names: &[&'static str], counts: &BTreeMap<&'static str, u64>) {
+    println!("\n{title}");
+    for name in names {
+        println!("{:>8}  {name}", counts.get(name).unwrap_or(&0));
+    }
+}
+
+fn count(counts: &mut BTreeMap<&'static str, u64>, name: &'static str) {
+    *counts.entry(name).or_default() += 1;
+}
+
+fn area_of(handle: u64) -> u64 {
+    Handle::unpack(handle).area
+}
+
+/// How many of its row's conditions a call breaks at once, as far as each can be told alone.
+fn faults(machine: &Machine, call: Call) -> usize {
+    let state = &machine.state;
+    let started = call.thread < THREADS && state.thread(call.thread).kind.is_some();
+    let dead = |word: u64| !machine.is_live(word);
+    let others = match call.op {
+        Op::Start { kind } => vec![started, !(1..=3).contains(&kind)],
+        Op::Make { area, size } => vec![
+            !(2..AREAS).contains(&area),
+            area < AREAS && state.area(area).made,
+            size == 0 || size > state.lengths.scratch - state.scratch_taken,
+        ],
+        Op::Enter { area } => vec![
+            area >= AREAS || !state.area(area).made,
+            started && state.thread(call.thread).stack.len() == STACK_ENTRIES,
+        ],
+        Op::Store { object, target, .. } => vec![dead(object), target != NULL && dead(target)],
+        Op::Load { object, .. } | Op::Read { object, .. } | Op::Write { object, .. } => {
+            vec![dead(object)]
+        }
+        Op::End | Op::Exit | Op::Allocate { .. } => vec![],
+    };
+    let thread = match call.op {
+        Op::Start { .. } => call.thread >= THREADS,
+        _ => !started,
+    };
+    let all = others.into_iter().chain([thread]);
+    all.filter(|&fault| fault).count()
+}
+
+/// The first way, in the order of `SPOILT`, in which a line is no frame.
+fn fault_of(line: &[u8]) -> &'static str {
+    let has = |wanted: fn(&u8) -> bool| line.iter().any(wanted);
+    match line.len() {
+        0 => "empty",
+        _ if has(|&byte| byte > 0x7f) => "byte above 7f",
+        _ if has(|&byte| byte == 0) => "NUL",
+        _ if has(|&byte| byte == b'\r') => "carriage return",
+        _ if has(|&byte| byte == b' ' || byte == b'\t') => "blank",
+        _ if has(|&byte| (b'A'..=b'F').contains(&byte)) => "upper case",
+        _ if has(|byte| !byte.is_ascii_hexdigit()) => "another byte",
+        1..=39 => "short",
+        40 => fault_of_digits(line),
+        41..=65_536 => "long",
+        65_537.. => "longer than 64 KiB",
+    }
+}
+
+/// The op or an unused field of 40 digits.
+fn fault_of_digits(line: &[u8]) -> &'static str {
+    match &line[..2] {
+        b"01" => "unused field of op 01",
+        b"02" | b"05" => "unused field of op 02 or 05",
+        b"03" | b"06" => "unused field of op 03 or 06",
+        b"04" => "unused field of op 04",
+        b"08" | b"0a" => "unused field of op 08 or 0a",
+        _ => "op that does not exist",
+    }
+}

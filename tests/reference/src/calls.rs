@@ -1,0 +1,314 @@
+//! "Calls, checks and yields": ops 01 to 0a, the shown part and its status call.
+//!
+//! Each call runs its checks in the order of its row and changes nothing before the last one.
+
+use crate::answer::{refuse_if, Answer, Outcome, Refusal};
+use crate::layout::{Handle, Header, NULL};
+use crate::memory::Memory;
+use crate::rights::{has_right, Kind, Right};
+use crate::state::{is_scope, Object, State, AREAS, FIRST_SCOPE};
+use crate::state::{LAST_GENERATION, STACK_ENTRIES, THREADS};
+
+/// One call of the table. Every field is any 64-bit number.
+#[derive(Clone, Copy, Debug, PartialEq, Eq)]
+pub struct Call {
+    pub thread: u64,
+    pub op: Op,
+}
+
+#[derive(Clone, Copy, Debug, PartialEq, Eq)]
+pub enum Op {
+    /// op 01
+    Start { kind: u64 },
+    /// op 02
+    End,
+    /// op 03
+    Make { area: u64, size: u64 },
+    /// op 04
+    Enter { area: u64 },
+    /// op 05
+    Exit,
+    /// op 06
+    Allocate { slots: u64, data: u64 },
+    /// op 07
+    Store { object: u64, slot: u64, target: u64 },
+    /// op 08
+    Load { object: u64, slot: u64 },
+    /// op 09
+    Write { object: u64, index: u64, word: u64 },
+    /// op 0a
+    Read { object: u64, index: u64 },
+}
+
+impl State {
+    pub fn run(&mut self, lent: &mut Memory, call: Call) -> Answer {
+        self.outcome(lent, call).into()
+    }
+
+    fn outcome(&mut self, lent: &mut Memory, call: Call) -> Outcome {
+        // "Every later call compares the three lengths."
+        self.check_lengths(lent)?;
+        let thread = call.thread;
+        match call.op {
+            Op::Start { kind } => self.start(thread, kind),
+            Op::End => self.end(thread),
+            Op::Make { area, size } => self.make(thread, area, size),
+            Op::Enter { area } => self.enter(thread, area),
+            Op::Exit => self.exit(thread),
+            Op::Allocate { slots, data } => self.allocate(lent, thread, slots, data),
+            Op::Store {
+                object,
+                slot,
+                target,
+            } => self.store(lent, thread, object, slot, target),
+            Op::Load { object, slot } => self.load(lent, thread, object, slot),
+            Op::Write {
+                object,
+                index,
+                word,
+            } => self.write(lent, thread, object, index, word),
+            Op::Read { object, index } => self.read(lent, thread, object, index),
+        }
+    }
+
+    /// "exactly its d words"; a refusal shows "a part of length 0".
+    pub fn shown_part<'a>(&self, lent: &'a Memory, thread: u64, object: u64) -> &'a [u64] {
+        match self.shown_object(lent, thread, object) {
+            Ok(object) => lent.part(object.first_data(), object.header.data),
+            Err(_) => &[],
+        }
+    }
+
+    /// "a call beside it yields the status"
+    pub fn shown_part_status(&self, lent: &Memory, thread: u64, object: u64) -> Answer {
+        let outcome = self.shown_object(lent, thread, object);
+        outcome.map(|_| 0).into()
+    }
+
+    /// "Refusals of this call (1, 2, 13, 5)"
+    fn shown_object(&self, lent: &Memory, thread: u64, object: u64) -> Result<Object, Refusal> {
+        self.check_lengths(lent)?;
+        let kind = self.check_thread(thread)?;
+        self.usable_object(lent, kind, object)
+    }
+
+    /// Op 01: 1, 2, 3, 4.
+    fn start(&mut self, thread: u64, kind: u64) -> Outcome {
+        refuse_if(thread >= THREADS, Refusal::Thread)?;
+        refuse_if(self.thread(thread).kind.is_some(), Refusal::Started)?;
+        let kind = Kind::from_number(kind).ok_or(Refusal::Kind)?;
+        self.threads[thread as usize].kind = Some(kind);
+        Ok(0)
+    }
+
+    /// Op 02: 1, 2, 11.
+    fn end(&mut self, thread: u64) -> Outcome {
+        self.check_thread(thread)?;
+        let has_entries = !self.thread(thread).stack.is_empty();
+        refuse_if(has_entries, Refusal::Entries)?;
+        self.threads[thread as usize].kind = None;
+        Ok(0)
+    }
+
+    /// Op 03: 1, 2, 6, 7, 8.
+    fn make(&mut self, thread: u64, area: u64, size: u64) -> Outcome {
+        self.check_thread(thread)?;
+        refuse_if(!(FIRST_SCOPE..AREAS).contains(&area), Refusal::Area)?;
+        refuse_if(self.area(area).made, Refusal::Made)?;
+        let unused = self.lengths.scratch - self.scratch_taken;
+        refuse_if(size == 0 || size > unused, Refusal::Size)?;
+        self.place_scope(area, size);
+        Ok(0)
+    }
+
+    /// "it takes the next unused scratch words, from word 0 on"
+    fn place_scope(&mut self, area: u64, size: u64) {
+        let first = self.lengths.permanent + self.scratch_taken;
+        let scope = &mut self.areas[area as usize];
+        scope.made = true;
+        scope.first = first;
+        scope.size = size;
+        self.scratch_taken += size;
+    }
+
+    /// Op 04: 1, 2, 6, 5, 9, 10, 17.
+    fn enter(&mut self, thread: u64, area: u64) -> Outcome {
+        let kind = self.check_thread(thread)?;
+        let exists = area < AREAS && self.area(area).made;
+        refuse_if(!exists, Refusal::Area)?;
+        check_right(kind, area, Right::Enter)?;
+        let entries = self.thread(thread).stack.len();
+        refuse_if(entries >= STACK_ENTRIES, Refusal::StackFull)?;
+        if is_scope(area) {
+            self.enter_scope(area, self.innermost_scope(thread))?;
+        }
+        self.threads[thread as usize].stack.push(area);
+        Ok(self.area(area).generation)
+    }
+
+    fn enter_scope(&mut self, area: u64, innermost: Option<u64>) -> Result<(), Refusal> {
+        if self.is_open(area) {
+            return self.enter_open_scope(area, innermost);
+        }
+        self.open_scope(area, innermost)
+    }
+
+    /// "An open scope may be entered only if its parent equals that innermost scope; its count
+    /// rises by 1."
+    fn enter_open_scope(&mut self, area: u64, innermost: Option<u64>) -> Result<(), Refusal> {
+        let scope = &mut self.areas[area as usize];
+        refuse_if(scope.parent != innermost, Refusal::Parent)?;
+        scope.count += 1;
+        Ok(())
+    }
+
+    /// "Entering a scope that isn't open fixes its parent ... It sets its turn one higher ..., its
+    /// used words to 0 and its count to 1."
+    fn open_scope(&mut self, area: u64, innermost: Option<u64>) -> Result<(), Refusal> {
+        let scope = &mut self.areas[area as usize];
+        refuse_if(scope.generation >= LAST_GENERATION, Refusal::LastGeneration)?;
+        scope.parent = innermost;
+        scope.generation += 1;
+        scope.used = 0;
+        scope.count = 1;
+        Ok(())
+    }
+
+    /// Op 05: 1, 2, 11. "Exit takes off the top entry."
+    fn exit(&mut self, thread: u64) -> Outcome {
+        self.check_thread(thread)?;
+        let stack = &mut self.threads[thread as usize].stack;
+        let top = stack.pop().ok_or(Refusal::Entries)?;
+        if is_scope(top) {
+            return Ok(self.leave_scope(top));
+        }
+        Ok(0)
+    }
+
+    /// "its count falls by 1; at 0 the scope has no parent and no used words"
+    fn leave_scope(&mut self, area: u64) -> u64 {
+        let scope = &mut self.areas[area as usize];
+        scope.count -= 1;
+        if scope.count == 0 {
+            scope.parent = None;
+            scope.used = 0;
+        }
+        scope.count
+    }
+
+    /// Op 06: 1, 2, 5, 12.
+    fn allocate(&mut self, lent: &mut Memory, thread: u64, slots: u64, data: u64) -> Outcome {
+        let kind = self.check_thread(thread)?;
+        let current = self.current_area(thread);
+        check_right(kind, current, Right::Allocate)?;
+        let area = &mut self.areas[current as usize];
+        let needed = u128::from(area.used) + 1 + u128::from(slots) + u128::from(data);
+        refuse_if(needed > u128::from(area.size), Refusal::Room)?;
+        let offset = area.used;
+        let header = Header { slots, data };
+        write_object(lent, area.first + offset, header);
+        area.used += header.words();
+        let generation = area.generation;
+        let handle = Handle {
+            offset,
+            area: current,
+            generation,
+        };
+        Ok(handle.pack())
+    }
+
+    /// Op 07: 1, 2, 13, 5 (U), 14, 15, 5 (R), 16.
+    fn store(
+        &self,
+        lent: &mut Memory,
+        thread: u64,
+        object: u64,
+        slot: u64,
+        target: u64,
+    ) -> Outcome {
+        let kind = self.check_thread(thread)?;
+        let holder = self.usable_object(lent, kind, object)?;
+        refuse_if(slot >= holder.header.slots, Refusal::Index)?;
+        self.check_reference(lent, kind, target)?;
+        self.check_assignment(holder.area, target)?;
+        lent.set_word(holder.first_slot() + slot, target);
+        Ok(0)
+    }
+
+    /// Op 08: 1, 2, 13, 5 (U), 14, 15, 5 (R).
+    fn load(&self, lent: &Memory, thread: u64, object: u64, slot: u64) -> Outcome {
+        let kind = self.check_thread(thread)?;
+        let holder = self.usable_object(lent, kind, object)?;
+        refuse_if(slot >= holder.header.slots, Refusal::Index)?;
+        let stored = lent.word(holder.first_slot() + slot);
+        self.check_reference(lent, kind, stored)?;
+        Ok(stored)
+    }
+
+    /// Op 09: 1, 2, 13, 5, 14.
+    fn write(&self, lent: &mut Memory, thread: u64, object: u64, index: u64, word: u64) -> Outcome {
+        let kind = self.check_thread(thread)?;
+        let object = self.usable_object(lent, kind, object)?;
+        refuse_if(index >= object.header.data, Refusal::Index)?;
+        lent.set_word(object.first_data() + index, word);
+        Ok(0)
+    }
+
+    /// Op 0a: 1, 2, 13, 5, 14.
+    fn read(&self, lent: &Memory, thread: u64, object: u64, index: u64) -> Outcome {
+        let kind = self.check_thread(thread)?;
+        let object = self.usable_object(lent, kind, object)?;
+        refuse_if(index >= object.header.data, Refusal::Index)?;
+        Ok(lent.word(object.first_data() + index))
+    }
+
+    /// Refusal 1: "lengths are not those of set-up".
+    fn check_lengths(&self, lent: &Memory) -> Result<(), Refusal> {
+        refuse_if(lent.lengths() != self.lengths, Refusal::Lengths)
+    }
+
+    /// Refusal 2: "thread above 15, or not started".
+    fn check_thread(&self, thread: u64) -> Result<Kind, Refusal> {
+        refuse_if(thread >= THREADS, Refusal::Thread)?;
+        self.thread(thread).kind.ok_or(Refusal::Thread)
+    }
+
+    /// Refusal 13, "object null or not live", then 5 (U).
+    fn usable_object(&self, lent: &Memory, kind: Kind, word: u64) -> Result<Object, Refusal> {
+        refuse_if(word == NULL, Refusal::Object)?;
+        let object = self.resolve(lent, word).ok_or(Refusal::Object)?;
+        check_right(kind, object.area, Right::Use)?;
+        Ok(object)
+    }
+
+    /// Refusal 15, "neither null nor live", then 5 (R), "where null always passes".
+    fn check_reference(&self, lent: &Memory, kind: Kind, word: u64) -> Result<(), Refusal> {
+        if word == NULL {
+            return Ok(());
+        }
+        let target = self.resolve(lent, word).ok_or(Refusal::Target)?;
+        check_right(kind, target.area, Right::Refer)
+    }
+
+    /// Refusal 16; "Null may be stored always."
+    fn check_assignment(&self, holder: u64, target: u64) -> Result<(), Refusal> {
+        let allowed = target == NULL || self.may_hold(holder, Handle::unpack(target).area);
+        refuse_if(!allowed, Refusal::Assignment)
+    }
+}
+
+/// Refusal 5: "rights table has 0".
+fn check_right(kind: Kind, area: u64, right: Right) -> Result<(), Refusal> {
+    refuse_if(!has_right(kind, area, right), Refusal::Right)
+}
+
+/// The header, then "sets slots and data to 0, sets the map bit of the header and clears those of
+/// its other words".
+fn write_object(lent: &mut Memory, first: u64, header: Header) {
+    lent.set_word(first, header.pack());
+    lent.set_start(first, true);
+    for number in first + 1..first + header.words() {
+        lent.set_word(number, 0);
+        lent.set_start(number, false);
+    }
+}

@@ -1,0 +1,278 @@
+//! Every claim of the third demand, tried by brute force against the book.
+
+use crate::book::{Book, MadeObject};
+use crate::layout::{Handle, NULL};
+use crate::machine::Machine;
+use crate::random::Random;
+use crate::rights::{has_right, Right};
+use crate::state::{is_scope, AREAS, HEAP, IMMORTAL};
+
+/// Nothing, or the words of the first claim that fails.
+pub type Claim = Result<(), String>;
+
+/// The claims that are cheap enough for each call.
+pub fn hold(machine: &Machine, book: &Book) -> Claim {
+    same_threads(machine, book)?;
+    same_scopes(machine, book)?;
+    ancestors_in_order(book)?;
+    walk_is_scan(machine, book)?;
+    walk_is_rule(machine, book)?;
+    references_are_sound(machine, book)?;
+    given_handles_are_exact(machine, book)
+}
+
+fn claim(holds: bool, words: impl FnOnce() -> String) -> Claim {
+    if holds {
+        Ok(())
+    } else {
+        Err(words())
+    }
+}
+
+/// "The core has the book's started threads, stacks ..."
+fn same_threads(machine: &Machine, book: &Book) -> Claim {
+    for (number, row) in book.rows.iter().enumerate() {
+        let thread = &machine.state.threads[number];
+        claim(thread.kind == book.kinds[number], || {
+            format!("thread {number} has kind {:?}", thread.kind)
+        })?;
+        let expected = row.as_deref().unwrap_or(&[]);
+        claim(thread.stack == expected, || {
+            format!("stack {number} is {:?}, not {expected:?}", thread.stack)
+        })?;
+    }
+    Ok(())
+}
+
+/// "... open scopes and parents."
+fn same_scopes(machine: &Machine, book: &Book) -> Claim {
+    let open_scopes = book.open_scopes();
+    for scope in 0..AREAS {
+        let open = open_scopes.contains(&scope);
+        claim(machine.state.is_open(scope) == open, || {
+            format!("scope {scope} is open: {}", !open)
+        })?;
+        let parent = book.parents.get(&scope).copied().flatten();
+        claim(machine.state.area(scope).parent == parent, || {
+            format!("scope {scope} has not the parent {parent:?}")
+        })?;
+        claim(book.parents.contains_key(&scope) == open, || {
+            format!("the book's parent of {scope} does not fit its rows")
+        })?;
+    }
+    Ok(())
+}
+
+/// "Every thread in a scope stands in all that scope's ancestors, in their order."
+fn ancestors_in_order(book: &Book) -> Claim {
+    for row in book.rows.iter().flatten() {
+        for (place, &scope) in row.iter().enumerate() {
+            stands_in_ancestors(book, row, place)
+                .ok_or_else(|| format!("row {row:?} lacks an ancestor of {scope}"))?;
+        }
+    }
+    Ok(())
+}
+
+/// "each one met stands below the one met before it, outermost lowest"
+fn stands_in_ancestors(book: &Book, row: &[u64], place: usize) -> Option<()> {
+    let mut below = place;
+    for ancestor in book.walk(row[place]).into_iter().skip(1) {
+        below = row[..below].iter().position(|&area| area == ancestor)?;
+    }
+    Some(())
+}
+
+/// "Of scopes A and B the walk says yes if from B it meets A, ... the scan if on the thread's row A
+/// stands no higher than B."
+fn walk_is_scan(machine: &Machine, book: &Book) -> Claim {
+    for row in book.rows.iter().flatten() {
+        let scopes: Vec<u64> = row.iter().copied().filter(|&a| is_scope(a)).collect();
+        for (place_b, &b) in scopes.iter().enumerate() {
+            let met: Vec<u64> = machine.state.walk(b).collect();
+            for (place_a, a) in scopes.iter().enumerate() {
+                claim(met.contains(a) == (place_a <= place_b), || {
+                    format!("walk and scan differ for {a} and {b} on {row:?}")
+                })?;
+            }
+        }
+    }
+    Ok(())
+}
+
+/// The core's verdict on a store equals the book's walk, for any two areas that have objects.
+fn walk_is_rule(machine: &Machine, book: &Book) -> Claim {
+    let mut areas = book.open_scopes();
+    areas.extend([HEAP, IMMORTAL]);
+    for &holder in &areas {
+        let met = book.walk(holder);
+        for &target in &areas {
+            let allowed = !is_scope(target) || met.contains(&target);
+            claim(machine.state.may_hold(holder, target) == allowed, || {
+                format!("an object of {holder} may hold one of {target}: {allowed}")
+            })?;
+        }
+    }
+    Ok(())
+}
+
+/// "Every reference in a live object is null or names a live object: one in the heap, in immortal
+/// memory, or in a scope that ... has never been empty of threads since that object was made." That
+/// live objects are held since they were made is tried with the given handles.
+fn references_are_sound(machine: &Machine, book: &Book) -> Claim {
+    let live = LiveNumbers::new(book);
+    for holder in book.live_objects() {
+        for slot in 0..holder.slots {
+            let word = reference(machine, holder, slot);
+            claim(word == NULL || live.contains(word), || {
+                format!("slot {slot} of {:x} holds {word:x}", holder.handle)
+            })?;
+        }
+    }
+    Ok(())
+}
+
+/// "a reference is the lent word in one of its slots"
+fn reference(machine: &Machine, holder: &MadeObject, slot: u64) -> u64 {
+    let handle = Handle::unpack(holder.handle);
+    let area = machine.state.area(handle.area);
+    machine.lent.word(area.first + handle.offset + 1 + slot)
+}
+
+/// "a handle whose object is gone is never accepted as one again", and no handle is given twice.
+fn given_handles_are_exact(machine: &Machine, book: &Book) -> Claim {
+    let mut given: Vec<u64> = book.objects.iter().map(|object| object.handle).collect();
+    given.sort_unstable();
+    let twice = given.windows(2).find(|pair| pair[0] == pair[1]);
+    claim(twice.is_none(), || format!("given twice: {twice:x?}"))?;
+    for object in &book.objects {
+        claim(machine.is_live(object.handle) != object.gone, || {
+            format!("given {:x} is live: {}", object.handle, object.gone)
+        })?;
+        claim(object.gone != book.held_since_made(object), || {
+            format!("object {:x} is gone: {}", object.handle, object.gone)
+        })?;
+    }
+    Ok(())
+}
+
+/// "A number is a live handle exactly when an allocation gave it for a live object", tried for
+/// single numbers.
+pub struct LiveNumbers {
+    sorted: Vec<u64>,
+}
+
+impl LiveNumbers {
+    pub fn new(book: &Book) -> LiveNumbers {
+        let live = book.live_objects().map(|object| object.handle);
+        let mut sorted: Vec<u64> = live.collect();
+        sorted.sort_unstable();
+        LiveNumbers { sorted }
+    }
+
+    pub fn contains(&self, word: u64) -> bool {
+        self.sorted.binary_search(&word).is_ok()
+    }
+
+    fn is_exact(&self, machine: &Machine, word: u64) -> Claim {
+        let live = machine.is_live(word);
+        claim(live == self.contains(word), || {
+            format!("number {word:x} is live: {live}")
+        })
+    }
+}
+
+/// Tries every neighbour of every given handle, and random words.
+pub fn neighbours_are_exact(machine: &Machine, book: &Book, random: &mut Random) -> Claim {
+    let live = LiveNumbers::new(book);
+    for object in &book.objects {
+        for bit in 0..64 {
+            live.is_exact(machine, object.handle ^ (1 << bit))?;
+        }
+        for word in neighbours(machine, object.handle) {
+            live.is_exact(machine, word)?;
+        }
+    }
+    for _ in 0..64 {
+        let word = random.word();
+        live.is_exact(machine, word)?;
+        live.is_exact(machine, word >> random.below(64))?;
+    }
+    Ok(())
+}
+
+/// One offset, area or generation beside a handle, and its place under the present generation.
+fn neighbours(machine: &Machine, word: u64) -> [u64; 7] {
+    let handle = Handle::unpack(word);
+    let present = machine.state.area(handle.area).generation;
+    let next_area = (handle.area + 1) % AREAS;
+    let next_generation = machine.state.area(next_area).generation;
+    [
+        word.wrapping_add(1),
+        word.wrapping_sub(1),
+        word.wrapping_add(1 << 14),
+        word.wrapping_add(1 << 20),
+        word.wrapping_sub(1 << 20),
+        with(handle, handle.area, present),
+        with(handle, next_area, next_generation),
+    ]
+}
+
+fn with(handle: Handle, area: u64, generation: u64) -> u64 {
+    let offset = handle.offset;
+    Handle {
+        offset,
+        area,
+        generation,
+    }
+    .pack()
+}
+
+/// Tries every offset of every area, under its generation and the one before.
+pub fn all_offsets_are_exact(machine: &Machine, book: &Book) -> Claim {
+    let live = LiveNumbers::new(book);
+    for area in 0..AREAS {
+        let Some(last) = machine.state.area(area).size.checked_sub(1) else {
+            continue;
+        };
+        let present = machine.state.area(area).generation;
+        for offset in 0..=last {
+            for generation in present.saturating_sub(1)..=present {
+                let handle = Handle {
+                    offset,
+                    area,
+                    generation,
+                };
+                live.is_exact(machine, handle.pack())?;
+            }
+        }
+    }
+    Ok(())
+}
+
+/// The shown part and its status call, by what the book knows of the thread and the number.
+pub fn shown_part_is_exact(machine: &Machine, book: &Book, thread: u64, word: u64) -> Claim {
+    let state = &machine.state;
+    let status = state.shown_part_status(&machine.lent, thread, word);
+    let length = state.shown_part(&machine.lent, thread, word).len() as u64;
+    let (expected, words) = expected_part(book, thread, word);
+    claim((status.status, length) == (expected, words), || {
+        format!("thread {thread} is shown {length} words of {word:x}, {status:?}")
+    })?;
+    claim(status.value == 0, || "the status call has a value".into())
+}
+
+/// The status and the length, from the book alone: "1, 2, 13, 5".
+fn expected_part(book: &Book, thread: u64, word: u64) -> (u64, u64) {
+    let Some(kind) = book.kinds.get(thread as usize).copied().flatten() else {
+        return (2, 0);
+    };
+    let mut live = book.live_objects();
+    let Some(object) = live.find(|object| object.handle == word) else {
+        return (13, 0);
+    };
+    if !has_right(kind, object.area, Right::Use) {
+        return (5, 0);
+    }
+    (0, object.data)
+}

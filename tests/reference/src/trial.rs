@@ -1,0 +1,166 @@
+//! Runs a list of calls with every claim of the third demand tried after each of them.
+
+use crate::answer::{Answer, Refusal};
+use crate::book::Book;
+use crate::calls::{Call, Op};
+use crate::claims::{self, Claim};
+use crate::frame;
+use crate::machine::Machine;
+use crate::memory::{Lengths, Memory};
+use crate::random::Random;
+
+/// Sizes of a set-up: heap, immortal, scratch.
+pub type Sizes = (u64, u64, u64);
+
+/// The frame reader's sizes.
+pub const FRAME_SIZES: Sizes = (1_024, 1_024, 4_096);
+
+/// A machine on lent words of any contents, its book, and the same machine on zeroed words.
+pub struct Trial {
+    pub machine: Machine,
+    pub zeroed: Machine,
+    pub book: Book,
+    random: Random,
+}
+
+impl Trial {
+    pub fn new(seed: u64, sizes: Sizes) -> Trial {
+        let mut random = Random::new(!seed);
+        let (heap, immortal, scratch) = sizes;
+        let lengths = Lengths::with_map(heap + immortal, scratch);
+        let lent = any_contents(&mut random, lengths);
+        Trial {
+            machine: Machine::over(heap, immortal, lent),
+            zeroed: Machine::zeroed(heap, immortal, scratch),
+            book: Book::new(),
+            random,
+        }
+    }
+
+    /// One call of the list, with the calls that stand beside it, and every claim after it.
+    pub fn call(&mut self, call: Call) -> Claim {
+        let before = self.machine.clone();
+        let answer = self.machine.run(call);
+        self.book.step(call, answer);
+        self.same_on_zeroed_words(call, answer)?;
+        self.answer_is_allowed(call, answer)?;
+        self.changes_are_allowed(&before, call, answer)?;
+        claims::hold(&self.machine, &self.book)?;
+        if self.machine != before {
+            claims::neighbours_are_exact(&self.machine, &self.book, &mut self.random)?;
+        }
+        self.beside(call)
+    }
+
+    /// "the lent words may hold anything": no answer shows a word that no call wrote.
+    fn same_on_zeroed_words(&mut self, call: Call, answer: Answer) -> Claim {
+        let other = self.zeroed.run(call);
+        if other != answer {
+            return Err(format!("{answer:?}, but {other:?} on zeroed words"));
+        }
+        Ok(())
+    }
+
+    /// "No op 08 in it yields 15." "a refusal and 0".
+    fn answer_is_allowed(&self, call: Call, answer: Answer) -> Claim {
+        let loaded = matches!(call.op, Op::Load { .. });
+        if loaded && answer.status == Refusal::Target as u64 {
+            return Err("op 08 yields 15".into());
+        }
+        if !answer.is_accepted() && answer.value != 0 {
+            return Err(format!("a refusal yields {:x}", answer.value));
+        }
+        Ok(())
+    }
+
+    /// "A refusal ... alters no state and no lent word"; only 06, 07 and 09 write lent words, and
+    /// only 01 to 06 the state.
+    fn changes_are_allowed(&self, before: &Machine, call: Call, answer: Answer) -> Claim {
+        let (writes, moves) = match call.op {
+            Op::Allocate { .. } => (true, true),
+            Op::Store { .. } | Op::Write { .. } => (true, false),
+            Op::Load { .. } | Op::Read { .. } => (false, false),
+            _ => (false, true),
+        };
+        let accepted = answer.is_accepted();
+        if !(accepted && writes) && self.machine.lent != before.lent {
+            return Err("a lent word changed".into());
+        }
+        if !(accepted && moves) && self.machine.state != before.state {
+            return Err("the state changed".into());
+        }
+        Ok(())
+    }
+
+    /// The calls of the list that frames cannot make: with other lengths, and the shown part.
+    fn beside(&mut self, call: Call) -> Claim {
+        let before = self.machine.clone();
+        self.refused_by_lengths(call)?;
+        let word = self.any_handle();
+        let thread = self.random.below(18);
+        claims::shown_part_is_exact(&self.machine, &self.book, thread, word)?;
+        if self.machine != before {
+            return Err("a call beside the list changed something".into());
+        }
+        Ok(())
+    }
+
+    /// Refusal 1, with one buffer a word shorter or longer.
+    fn refused_by_lengths(&mut self, call: Call) -> Claim {
+        let mut lent = self.machine.lent.clone();
+        let buffer = match self.random.below(3) {
+            0 => &mut lent.permanent,
+            1 => &mut lent.scratch,
+            _ => &mut lent.start_map,
+        };
+        if self.random.percent(50) || buffer.pop().is_none() {
+            buffer.push(self.random.word());
+        }
+        let kept = lent.clone();
+        let answer = self.machine.state.run(&mut lent, call);
+        if answer != Answer::refused(Refusal::Lengths) || lent != kept {
+            return Err(format!("{answer:?} with lengths {:?}", lent.lengths()));
+        }
+        Ok(())
+    }
+
+    /// A handle given so far, live or not, or a number one bit beside it.
+    fn any_handle(&mut self) -> u64 {
+        let given: Vec<u64> = self.book.objects.iter().map(|o| o.handle).collect();
+        let word = self.random.one_of(&given).unwrap_or(0);
+        if self.random.percent(30) {
+            return word ^ (1 << self.random.below(64));
+        }
+        word
+    }
+}
+
+/// Words of any contents: small ones that look like headers among random ones.
+fn any_contents(random: &mut Random, lengths: Lengths) -> Memory {
+    let mut lent = Memory::zeroed(lengths);
+    for word in lent.permanent.iter_mut().chain(&mut lent.scratch) {
+        *word = random.word() >> random.below(64);
+    }
+    for word in &mut lent.start_map {
+        *word = random.word() | random.word();
+    }
+    lent
+}
+
+/// Runs every frame of a list; panics with the seed and the call where a claim fails.
+pub fn run_list(seed: u64, sizes: Sizes, list: &[u8]) {
+    let mut trial = Trial::new(seed, sizes);
+    for (number, line) in frame::lines(list).into_iter().enumerate() {
+        let Some(call) = frame::parse(line) else {
+            continue;
+        };
+        if let Err(words) = trial.call(call) {
+            let line_number = number + 1;
+            panic!("seed {seed}, sizes {sizes:?}, line {line_number}, {call:x?}: {words}");
+        }
+    }
+    let last = claims::all_offsets_are_exact(&trial.machine, &trial.book);
+    if let Err(words) = last {
+        panic!("seed {seed}, sizes {sizes:?}, after the list: {words}");
+    }
+}

@@ -1,0 +1,254 @@
+//! The brute-force check holds for generated lists and sees what it should see.
+
+mod common;
+
+use common::REAL_TIME;
+use reference::answer::Answer;
+use reference::book::Book;
+use reference::calls::{Call, Op};
+use reference::claims;
+use reference::generator;
+use reference::machine::Machine;
+use reference::random::Random;
+use reference::rights::Kind;
+use reference::trial::{run_list, Trial, FRAME_SIZES};
+
+#[test]
+fn generated_lists_hold() {
+    for seed in 1..=10 {
+        let list = generator::list(seed, 200);
+        run_list(seed, FRAME_SIZES, &list);
+        run_list(seed, (57, 130, 777), &list);
+    }
+}
+
+#[test]
+fn lists_depend_on_the_seed_alone() {
+    assert_eq!(generator::list(5, 300), generator::list(5, 300));
+    assert_ne!(generator::list(5, 300), generator::list(6, 300));
+    // The numbers themselves are fixed: splitmix64 from 0.
+    let mut random = Random::new(0);
+    assert_eq!(random.word(), 0xe220_a839_7b1d_cdaf);
+    assert_eq!(random.word(), 0x6e78_9e6a_a1b9_65f4);
+}
+
+fn run(machine: &mut Machine, book: &mut Book, thread: u64, op: Op) -> u64 {
+    let call = Call { thread, op };
+    let answer = machine.run(call);
+    assert!(answer.is_accepted(), "{call:?} {answer:?}");
+    book.step(call, answer);
+    answer.value
+}
+
+/// Thread 0 in scopes 2 and 3, thread 1 in 2; an object in each that refers to the one of 2.
+fn nested() -> (Machine, Book, u64, u64) {
+    let (mut machine, mut book) = (Machine::for_frames(), Book::new());
+    let mut call = |thread, op| run(&mut machine, &mut book, thread, op);
+    call(0, Op::Start { kind: REAL_TIME });
+    call(1, Op::Start { kind: REAL_TIME });
+    call(0, Op::Make { area: 2, size: 20 });
+    call(0, Op::Make { area: 3, size: 20 });
+    call(0, Op::Enter { area: 2 });
+    let outer = call(0, Op::Allocate { slots: 1, data: 1 });
+    call(0, Op::Enter { area: 3 });
+    call(1, Op::Enter { area: 2 });
+    let inner = call(0, Op::Allocate { slots: 1, data: 1 });
+    for object in [outer, inner] {
+        let (slot, target) = (0, outer);
+        let op = Op::Store {
+            object,
+            slot,
+            target,
+        };
+        call(1, op);
+    }
+    assert_eq!(all_claims(&machine, &book), Ok(()));
+    (machine, book, outer, inner)
+}
+
+fn all_claims(machine: &Machine, book: &Book) -> claims::Claim {
+    claims::hold(machine, book)?;
+    claims::neighbours_are_exact(machine, book, &mut Random::new(1))?;
+    claims::all_offsets_are_exact(machine, book)
+}
+
+/// The words of the claim that fails after a change of the machine.
+fn words_after(change: impl FnOnce(&mut Machine, &mut Book, u64, u64)) -> String {
+    let (mut machine, mut book, outer, inner) = nested();
+    change(&mut machine, &mut book, outer, inner);
+    let claim = all_claims(&machine, &book);
+    claim.expect_err("every claim holds")
+}
+
+#[test]
+fn sees_another_thread() {
+    let words = words_after(|machine, _, _, _| {
+        machine.state.threads[5].kind = Some(Kind::NoHeap);
+    });
+    assert!(words.contains("thread 5 has kind"), "{words}");
+}
+
+#[test]
+fn sees_a_forgotten_entry() {
+    let words = words_after(|machine, _, _, _| {
+        machine.state.threads[0].stack.pop();
+    });
+    assert!(words.contains("stack 0"), "{words}");
+}
+
+#[test]
+fn sees_a_scope_closed_under_its_thread() {
+    let words = words_after(|machine, _, _, _| machine.state.areas[3].count = 0);
+    assert!(words.contains("scope 3 is open"), "{words}");
+}
+
+#[test]
+fn sees_another_parent() {
+    let words = words_after(|machine, _, _, _| machine.state.areas[3].parent = None);
+    assert!(words.contains("has not the parent"), "{words}");
+}
+
+/// The first version: each thread nests scopes in its own order.
+#[test]
+fn sees_a_thread_outside_an_ancestor() {
+    let words = words_after(|machine, book, _, _| {
+        machine.state.threads[1].stack.push(3);
+        machine.state.threads[1].stack.remove(0);
+        book.rows[1] = Some(vec![3]);
+    });
+    assert!(words.contains("lacks an ancestor of 3"), "{words}");
+}
+
+#[test]
+fn sees_ancestors_out_of_order() {
+    let words = words_after(|machine, book, _, _| {
+        machine.state.threads[1].stack = vec![3, 2];
+        book.rows[1] = Some(vec![3, 2]);
+    });
+    assert!(words.contains("lacks an ancestor of 3"), "{words}");
+}
+
+#[test]
+fn sees_scopes_on_a_row_that_are_no_ancestors() {
+    let words = words_after(|machine, book, _, _| {
+        machine.state.areas[3].parent = None;
+        book.parents.insert(3, None);
+    });
+    assert!(words.contains("walk and scan differ"), "{words}");
+}
+
+/// A reference from an outer object to an inner one, whose scope then empties.
+#[test]
+fn sees_a_dangling_reference() {
+    let words = words_after(|machine, book, _, inner| {
+        machine.lent.scratch[1] = inner;
+        run(machine, book, 0, Op::Exit);
+    });
+    assert!(words.contains("slot 0 of"), "{words}");
+}
+
+/// A start bit at the data word of the object in scope 2, which reads as an empty header.
+#[test]
+fn sees_a_number_that_was_never_given() {
+    let words = words_after(|machine, _, _, _| machine.lent.start_map[32] |= 4);
+    assert!(words.contains("is live: true"), "{words}");
+}
+
+#[test]
+fn sees_a_handle_that_is_refused() {
+    let words = words_after(|machine, _, _, _| machine.lent.start_map[32] &= !1);
+    assert!(words.contains("is live: false"), "{words}");
+}
+
+/// "Resetting the turn on reuse."
+#[test]
+fn sees_a_dead_handle_live_again() {
+    let words = words_after(|machine, book, _, _| {
+        run(machine, book, 0, Op::Exit);
+        machine.state.areas[3].generation = 0;
+        run(machine, book, 0, Op::Enter { area: 3 });
+        run(machine, book, 0, Op::Allocate { slots: 1, data: 1 });
+    });
+    assert!(words.contains("given twice"), "{words}");
+}
+
+#[test]
+fn sees_a_dead_handle_accepted() {
+    let words = words_after(|machine, book, _, _| {
+        let kept = machine.state.areas[3].clone();
+        run(machine, book, 0, Op::Exit);
+        run(machine, book, 0, Op::Enter { area: 3 });
+        machine.state.areas[3] = kept;
+    });
+    assert!(words.contains("is live: true"), "{words}");
+}
+
+#[test]
+fn sees_a_shown_part_of_another_length() {
+    let (machine, mut book, outer, _) = nested();
+    let shown = claims::shown_part_is_exact(&machine, &book, 0, outer);
+    assert_eq!(shown, Ok(()));
+    book.objects[0].data = 2;
+    let shown = claims::shown_part_is_exact(&machine, &book, 0, outer);
+    assert!(shown.is_err());
+}
+
+/// The trial compares with zeroed words, and sees a machine that goes its own way.
+#[test]
+fn trial_sees_another_answer() {
+    let mut trial = Trial::new(1, FRAME_SIZES);
+    let op = Op::Start { kind: REAL_TIME };
+    let start = Call { thread: 0, op };
+    assert_eq!(trial.call(start), Ok(()));
+    let op = Op::Exit;
+    trial.zeroed.state.threads[0].kind = None;
+    let words = trial.call(Call { thread: 0, op });
+    assert!(words.expect_err("answers agree").contains("zeroed"));
+}
+
+/// An op 08 that yields 15 is a violation: a lent word that no call stored.
+#[test]
+fn trial_sees_a_15_of_op_08() {
+    let mut trial = Trial::new(1, FRAME_SIZES);
+    let mut call = |op| {
+        let claim = trial.call(Call { thread: 0, op });
+        assert_eq!(claim, Ok(()));
+    };
+    call(Op::Start { kind: REAL_TIME });
+    call(Op::Allocate { slots: 1, data: 0 });
+    trial.machine.lent.permanent[1] = 1;
+    trial.zeroed.lent.permanent[1] = 1;
+    let (object, slot) = (1 << 20, 0);
+    let op = Op::Load { object, slot };
+    let words = trial.call(Call { thread: 0, op });
+    assert_eq!(words, Err("op 08 yields 15".into()));
+}
+
+/// The book is fed arguments and answers alone.
+#[test]
+fn book_keeps_rows_parents_and_objects() {
+    let (mut machine, mut book, outer, inner) = nested();
+    assert_eq!(book.rows[0], Some(vec![2, 3]));
+    assert_eq!(book.rows[1], Some(vec![2]));
+    assert_eq!(book.rows[2], None);
+    assert_eq!(book.parents[&2], None);
+    assert_eq!(book.parents[&3], Some(2));
+    let handles = |book: &Book| -> Vec<u64> { book.live_objects().map(|o| o.handle).collect() };
+    assert_eq!(handles(&book), [outer, inner]);
+    let refused = Answer {
+        status: 2,
+        value: 0,
+    };
+    let op = Op::Exit;
+    book.step(Call { thread: 0, op }, refused);
+    assert_eq!(book.rows[0], Some(vec![2, 3]));
+    run(&mut machine, &mut book, 0, Op::Exit);
+    assert_eq!(handles(&book), [outer]);
+    assert!(!book.parents.contains_key(&3));
+    run(&mut machine, &mut book, 0, Op::Exit);
+    assert_eq!(handles(&book), [outer]);
+    run(&mut machine, &mut book, 1, Op::Exit);
+    assert_eq!(handles(&book), [0; 0]);
+    run(&mut machine, &mut book, 1, Op::End);
+    assert_eq!(book.rows[1], None);
+}
