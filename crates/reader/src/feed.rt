@@ -1,0 +1,195 @@
+// Feeding: the input comes in chunks, each line that ends is answered, and the line so far waits for
+// the next chunk.
+use crate::frame::Fields;
+use crate::frame::Line;
+use layout::stack::Answer;
+use scopes::Op;
+ghost use mathlib.Core.Path.{_≡_};
+ghost use mathlib.Core.List.{[], _∷_};
+ghost use Prim.Native.Nat.{_+_, _*_, _≤_};
+ghost use lib.ListN.{length};
+ghost use Rattle.tables.specs.Contract.{Ready};
+ghost use Rattle.reader.specs.Ops.{opOf};
+ghost use Rattle.reader.specs.Held.{core, held, Called, Answered, Ended, Feeds, Finishes};
+
+// How many bytes the line so far has (41 for every longer line), and how many were written.
+pub struct Fed {
+    pub len: usize,
+    pub written: usize,
+}
+
+// The op of a number from 1 to 10.
+fn op_of(op: u64) -> Op
+    ensures { λ r. ⌜ r ≡ opOf op ⌝ }
+{
+    match op {
+        1 => Op::Start,
+        2 => Op::End,
+        3 => Op::Make,
+        4 => Op::Enter,
+        5 => Op::Exit,
+        6 => Op::Allocate,
+        7 => Op::Store,
+        8 => Op::Load,
+        9 => Op::Write,
+        _ => Op::Read,
+    }
+}
+
+// Carries out the call of a frame.
+fn carry_out(
+    words: &mut [u64; 548],
+    bytes: &mut [u8; 3072],
+    permanent: &mut [u64],
+    scratch: &mut [u64],
+    map: &mut [u64],
+    f: Fields,
+) -> Answer
+    requires { ⌜ Ready (now words) (now bytes) ⌝ }
+    ensures { λ r. ⌜ Called (core (now (words .entry)) (now (bytes .entry)) (now (permanent .entry)) (now (scratch .entry)) (now (map .entry))) (core (now (words .exit)) (now (bytes .exit)) (now (permanent .exit)) (now (scratch .exit)) (now (map .exit))) f r ⌝ }
+{
+    scopes::carry_out(
+        words,
+        bytes,
+        permanent,
+        scratch,
+        map,
+        op_of(f.op),
+        f.thread,
+        f.p,
+        f.q,
+        f.r,
+    )
+}
+
+// Answers a line: a frame's call is carried out; any other line gives 18 and changes nothing.
+fn answer_line(
+    words: &mut [u64; 548],
+    bytes: &mut [u8; 3072],
+    permanent: &mut [u64],
+    scratch: &mut [u64],
+    map: &mut [u64],
+    line: &[u8; 40],
+    len: usize,
+) -> Answer
+    requires { ⌜ (Ready (now words) (now bytes)) × (length (now line) ≡ 40) ⌝ }
+    ensures { λ r. ⌜ Answered (core (now (words .entry)) (now (bytes .entry)) (now (permanent .entry)) (now (scratch .entry)) (now (map .entry))) (core (now (words .exit)) (now (bytes .exit)) (now (permanent .exit)) (now (scratch .exit)) (now (map .exit))) (now (line .entry)) len r ⌝ }
+{
+    let Line::Frame(f) = crate::frame::parse_line(line, len) else {
+        return Answer {
+            status: 18,
+            value: 0,
+        };
+    };
+    carry_out(words, bytes, permanent, scratch, map, f)
+}
+
+// Answers a line and writes the answer.
+fn end_line(
+    words: &mut [u64; 548],
+    bytes: &mut [u8; 3072],
+    permanent: &mut [u64],
+    scratch: &mut [u64],
+    map: &mut [u64],
+    line: &[u8; 40],
+    len: usize,
+    output: &mut [u8],
+    at: usize,
+)
+    requires { ⌜ (Ready (now words) (now bytes)) × (length (now line) ≡ 40) × (at + 19 ≤ length (now output)) ⌝ }
+    ensures { λ r. ⌜ Ended (core (now (words .entry)) (now (bytes .entry)) (now (permanent .entry)) (now (scratch .entry)) (now (map .entry))) (core (now (words .exit)) (now (bytes .exit)) (now (permanent .exit)) (now (scratch .exit)) (now (map .exit))) (now (line .entry)) len (now (output .entry)) at (now (output .exit)) ⌝ }
+{
+    let a = answer_line(words, bytes, permanent, scratch, map, line, len);
+    crate::answer::write_answer(output, at, a.status, a.value);
+}
+
+// One byte: a line feed ends the line so far; any other byte belongs to it.
+fn feed_byte(
+    words: &mut [u64; 548],
+    bytes: &mut [u8; 3072],
+    permanent: &mut [u64],
+    scratch: &mut [u64],
+    map: &mut [u64],
+    line: &mut [u8; 40],
+    len: usize,
+    b: u8,
+    output: &mut [u8],
+    at: usize,
+) -> Fed
+    requires { ⌜ (Ready (now words) (now bytes)) × (length (now line) ≡ 40) × (at + 19 ≤ length (now output)) ⌝ }
+    ensures { λ r. ⌜ Feeds (held (core (now (words .entry)) (now (bytes .entry)) (now (permanent .entry)) (now (scratch .entry)) (now (map .entry))) (now (line .entry)) len (now (output .entry)) at) (held (core (now (words .exit)) (now (bytes .exit)) (now (permanent .exit)) (now (scratch .exit)) (now (map .exit))) (now (line .exit)) (r .len) (now (output .exit)) (r .written)) (b ∷ []) ⌝ }
+{
+    if b == b'\n' {
+        end_line(words, bytes, permanent, scratch, map, line, len, output, at);
+        return Fed {
+            len: 0,
+            written: at + 19,
+        };
+    }
+    Fed {
+        len: crate::line::add_byte(line, len, b),
+        written: at,
+    }
+}
+
+// A chunk of the input, one byte a turn. The output has room for an answer to each byte of it.
+pub fn feed(
+    words: &mut [u64; 548],
+    bytes: &mut [u8; 3072],
+    permanent: &mut [u64],
+    scratch: &mut [u64],
+    map: &mut [u64],
+    line: &mut [u8; 40],
+    len: usize,
+    input: &[u8],
+    output: &mut [u8],
+) -> Fed
+    requires { ⌜ (Ready (now words) (now bytes)) × (length (now line) ≡ 40) × (19 * length (now input) ≤ length (now output)) ⌝ }
+    ensures { λ r. ⌜ Feeds (held (core (now (words .entry)) (now (bytes .entry)) (now (permanent .entry)) (now (scratch .entry)) (now (map .entry))) (now (line .entry)) len (now (output .entry)) 0) (held (core (now (words .exit)) (now (bytes .exit)) (now (permanent .exit)) (now (scratch .exit)) (now (map .exit))) (now (line .exit)) (r .len) (now (output .exit)) (r .written)) (now (input .entry)) ⌝ }
+{
+    let mut n = len;
+    let mut at = 0;
+    let mut i = 0;
+    while i < input.len() {
+        let turn = feed_byte(
+            words,
+            bytes,
+            permanent,
+            scratch,
+            map,
+            line,
+            n,
+            input[i],
+            output,
+            at,
+        );
+        n = turn.len;
+        at = turn.written;
+        i += 1;
+    }
+    Fed {
+        len: n,
+        written: at,
+    }
+}
+
+// The end of the input: a line so far that is not empty is a line. How many bytes were written.
+pub fn finish(
+    words: &mut [u64; 548],
+    bytes: &mut [u8; 3072],
+    permanent: &mut [u64],
+    scratch: &mut [u64],
+    map: &mut [u64],
+    line: &[u8; 40],
+    len: usize,
+    output: &mut [u8],
+) -> usize
+    requires { ⌜ (Ready (now words) (now bytes)) × (length (now line) ≡ 40) × (19 ≤ length (now output)) ⌝ }
+    ensures { λ r. ⌜ Finishes (held (core (now (words .entry)) (now (bytes .entry)) (now (permanent .entry)) (now (scratch .entry)) (now (map .entry))) (now (line .entry)) len (now (output .entry)) 0) (held (core (now (words .exit)) (now (bytes .exit)) (now (permanent .exit)) (now (scratch .exit)) (now (map .exit))) (now (line .entry)) 0 (now (output .exit)) r) ⌝ }
+{
+    if len == 0 {
+        return 0;
+    }
+    end_line(words, bytes, permanent, scratch, map, line, len, output, 0);
+    19
+}
