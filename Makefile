@@ -1,6 +1,6 @@
 # The two commands of README.md, and what else there is to run.
 
-.PHONY: run test prove compare soak format
+.PHONY: run test prove compare soak bench format
 
 # Proves and builds the program, runs it on the specification's example and shows each line with its answer.
 run:
@@ -21,6 +21,10 @@ compare:
 # The same on fresh lists for as long as one likes: make soak SECONDS=600
 soak:
 	@scripts/soak $(SECONDS)
+
+# The program's speed beside the second implementation's, as a ratio, after `make test`.
+bench:
+	@scripts/bench
 
 format:
 	@rt fmt
