@@ -1,5 +1,6 @@
 -- What is proved of the definitions, in the order in which it is built up.
 pub mod Samples
+pub mod FurtherSamples
 pub mod Accepted
 pub mod Lists
 pub mod Nesting
