@@ -7,7 +7,7 @@ ghost use mathlib.Core.Path.{_≡_};
 ghost use Prim.Native.Nat.{_*_, _≤_};
 ghost use lib.ListN.{length, replicate};
 ghost use Rattle.tables.specs.Contract.{Ready};
-ghost use Rattle.reader.specs.Answers.{firstWorld};
+ghost use Rattle.reader.specs.Output.{firstWorld};
 ghost use Rattle.reader.specs.Held.{core, Stands};
 
 // How many bytes the line so far has, and whether there may be more to read. After a failure nothing

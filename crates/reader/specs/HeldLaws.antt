@@ -19,14 +19,15 @@ use Rattle.setup.specs.First.{Begun, prepared}
 use Rattle.model.specs.Calls.{outcomeOf}
 use Rattle.tables.specs.Contract.{memoryOf, Ready}
 use Rattle.tables.specs.Cut.{put}
-use Rattle.reader.specs.declared.frame.Fields.{Fields}
-use Rattle.reader.specs.declared.frame.Line.{Line}
-use Rattle.reader.specs.declared.frame.Line.the-variants.{Frame, Bad}
-use Rattle.reader.specs.Frames.{fieldsOf, isFrame, callOf}
-use Rattle.reader.specs.Answers.{answerOf, lineAnswer, afterLine, firstWorld}
-use Rattle.reader.specs.AnswerLaws.{length-answer, put-nothing}
-use Rattle.reader.specs.Lines.{Holds, Means}
-use Rattle.reader.specs.LineLaws.{holds-none}
+use Rattle.lines.specs.declared.frame.Fields.{Fields}
+use Rattle.lines.specs.declared.frame.Line.{Line}
+use Rattle.lines.specs.declared.frame.Line.the-variants.{Frame, Bad}
+use Rattle.lines.specs.Frames.{fieldsOf, isFrame}
+use Rattle.lines.specs.Answers.{answerOf}
+use Rattle.reader.specs.Output.{callOf, lineAnswer, afterLine, firstWorld}
+use Rattle.lines.specs.AnswerLaws.{length-answer, put-nothing}
+use Rattle.lines.specs.Lines.{Holds, Means}
+use Rattle.lines.specs.LineLaws.{holds-none}
 use Rattle.reader.specs.Feeding.{finished, finished-none, finished-rest, fed-none, fed-end, fed-other}
 use Rattle.reader.specs.Held.{Core, core, Stands, Called, Answered, Ended, Held, held, Leaves, Feeds, Finishes, feeds-append}
 
@@ -149,12 +150,15 @@ finishes-none k line out y = record {
     leaves-empty : (w : World) → Stands k w → Holds line 0 [] → Leaves (held k line 0 out 0) (held k line 0 out 0) (finished w [])
     leaves-empty w s h = rw (finished-none w) (record { stands = s; holds = h; at-is = refl; output-is = put-nothing out 0 })
 
+empty-count : (line : List ℕ) (len : ℕ) → Holds line len [] → len ≡ 0
+empty-count line len h = omega (arith, h .count)
+
 pub finishes-rest : (k n : Core) (line : List ℕ) (len : ℕ) (out written : List ℕ) → Ended k n line len out 0 written → (len ≡ 0 → ⊥) → length line ≡ 40
     → Finishes (held k line len out 0) (held n line 0 written 19)
 finishes-rest k n line len out written d q z = record {
   ready = d .ready;
   room = omega arith;
-  leaves = λ w l s h. rw (finished-rest w l (λ e. q (h .count ∙ rw e refl))) (leaves-ended k n line len out 0 written d z w l s h);
+  leaves = λ w l s h. rw (finished-rest w l (λ e. q (empty-count line len (subst (Holds line len) e h)))) (leaves-ended k n line len out 0 written d z w l s h);
 }
 
 -- ---- the beginning

@@ -14,8 +14,8 @@ use Rattle.tables.specs.Decode.{stateOf}
 use Rattle.scopes.specs.declared.Op.{Op}
 use Rattle.scopes.specs.declared.Op.the-variants.{Start, End, Make, Enter, Exit, Allocate, Store, Load, Write, Read}
 use Rattle.scopes.specs.Step as step
-use Rattle.reader.specs.declared.frame.Fields.{Fields}
-use Rattle.reader.specs.Frames.{callOf}
+use Rattle.lines.specs.declared.frame.Fields.{Fields}
+use Rattle.reader.specs.Output.{callOf}
 use Rattle.reader.specs.Held.{Core, Stands, Called}
 
 -- the ops by their numbers, 01 to 0a

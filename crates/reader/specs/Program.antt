@@ -9,9 +9,9 @@ use lib.ListN.{length, take, drop}
 use lib.Seq.{sets-eq, take-append-seam}
 use Rattle.model.specs.Run.{World}
 use Rattle.tables.specs.Cut.{put}
-use Rattle.reader.specs.Answers.{firstWorld, outputOf}
-use Rattle.reader.specs.Lines.{Holds}
-use Rattle.reader.specs.LineLaws.{holds-none}
+use Rattle.reader.specs.Output.{firstWorld, outputOf}
+use Rattle.lines.specs.Lines.{Holds}
+use Rattle.lines.specs.LineLaws.{holds-none}
 use Rattle.reader.specs.Feeding.{Feeding, fed, finished, fedAll, joined, fed-output}
 use Rattle.reader.specs.Held.{Core, Stands, Held, held, Leaves, Feeds, Finishes}
 

@@ -1,8 +1,8 @@
 // Feeding: the input comes in chunks, each line that ends is answered, and the line so far waits for
 // the next chunk.
-use crate::frame::Fields;
-use crate::frame::Line;
 use layout::stack::Answer;
+use lines::frame::Fields;
+use lines::frame::Line;
 use scopes::Op;
 ghost use mathlib.Core.Path.{_≡_};
 ghost use mathlib.Core.List.{[], _∷_};
@@ -75,7 +75,7 @@ fn answer_line(
     requires { ⌜ (Ready (now words) (now bytes)) × (length (now line) ≡ 40) ⌝ }
     ensures { λ r. ⌜ Answered (core (now (words .entry)) (now (bytes .entry)) (now (permanent .entry)) (now (scratch .entry)) (now (map .entry))) (core (now (words .exit)) (now (bytes .exit)) (now (permanent .exit)) (now (scratch .exit)) (now (map .exit))) (now (line .entry)) len r ⌝ }
 {
-    let Line::Frame(f) = crate::frame::parse_line(line, len) else {
+    let Line::Frame(f) = lines::frame::parse_line(line, len) else {
         return Answer {
             status: 18,
             value: 0,
@@ -100,7 +100,7 @@ fn end_line(
     ensures { λ r. ⌜ Ended (core (now (words .entry)) (now (bytes .entry)) (now (permanent .entry)) (now (scratch .entry)) (now (map .entry))) (core (now (words .exit)) (now (bytes .exit)) (now (permanent .exit)) (now (scratch .exit)) (now (map .exit))) (now (line .entry)) len (now (output .entry)) at (now (output .exit)) ⌝ }
 {
     let a = answer_line(words, bytes, permanent, scratch, map, line, len);
-    crate::answer::write_answer(output, at, a.status, a.value);
+    lines::answer::write_answer(output, at, a.status, a.value);
 }
 
 // One byte: a line feed ends the line so far; any other byte belongs to it.
@@ -127,7 +127,7 @@ fn feed_byte(
         };
     }
     Fed {
-        len: crate::line::add_byte(line, len, b),
+        len: lines::line::add_byte(line, len, b),
         written: at,
     }
 }

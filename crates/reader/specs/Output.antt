@@ -1,0 +1,56 @@
+-- What a line is answered, and the answers to a whole input.
+-- Assumes nothing.
+use Prim.Native.Nat.{ℕ}
+use mathlib.Core.List.{List, [], _∷_, _++_}
+use lib.Dec.{eqb}
+use lib.ListN.{replicate}
+use Rattle.layout.specs.Choice.{pick}
+use Rattle.model.specs.Calls.{Call, outcomeOf, start, end, make, enter, exit, allocate, store, load, write, read}
+use Rattle.model.specs.Run.{World, kept, step, begin}
+use Rattle.lines.specs.declared.frame.Fields.{Fields}
+use Rattle.lines.specs.Frames.{fieldsOf, isFrame}
+use Rattle.lines.specs.Answers.{answerOf}
+
+-- the call of an op that exists, by its number; 10 is 0a
+unfoldable pub callOf : Fields → Call
+callOf f =
+    pick (eqb (f .op) 1) (start (f .thread) (f .p))
+    (pick (eqb (f .op) 2) (end (f .thread))
+    (pick (eqb (f .op) 3) (make (f .thread) (f .q) (f .r))
+    (pick (eqb (f .op) 4) (enter (f .thread) (f .q))
+    (pick (eqb (f .op) 5) (exit (f .thread))
+    (pick (eqb (f .op) 6) (allocate (f .thread) (f .q) (f .r))
+    (pick (eqb (f .op) 7) (store (f .thread) (f .p) (f .q) (f .r))
+    (pick (eqb (f .op) 8) (load (f .thread) (f .p) (f .q))
+    (pick (eqb (f .op) 9) (write (f .thread) (f .p) (f .q) (f .r))
+    (read (f .thread) (f .p) (f .q))))))))))
+
+-- "Any other line gives 18 and is skipped to its line feed"
+unfoldable pub lineAnswer : World → List ℕ → List ℕ
+lineAnswer w l =
+    pick (isFrame l)
+    (answerOf (outcomeOf (w .state) (w .memory) (callOf (fieldsOf l)) .reply .status) (outcomeOf (w .state) (w .memory) (callOf (fieldsOf l)) .reply .value))
+    (answerOf 18 0)
+
+unfoldable pub afterLine : World → List ℕ → World
+afterLine w l = pick (isFrame l) (step w (record { call = callOf (fieldsOf l); lent = kept })) w
+
+-- a line feed ends a line; "The last line feed may be missing": what follows the last one is a line unless it is empty. The bytes of the
+-- line so far come first, then the input.
+unfoldable pub linesOf : List ℕ → List ℕ → List (List ℕ)
+linesOf [] [] = []
+linesOf (c ∷ line) [] = (c ∷ line) ∷ []
+linesOf line (b ∷ input) = pick (eqb b 10) (line ∷ linesOf [] input) (linesOf (line ++ (b ∷ [])) input)
+
+-- the answers to lines, in order
+unfoldable pub answersOf : World → List (List ℕ) → List ℕ
+answersOf w [] = []
+answersOf w (l ∷ ls) = lineAnswer w l ++ answersOf (afterLine w l) ls
+
+-- "runs with h = i = 1,024, S = 4,096"; the buffers hold 0 at first
+unfoldable pub firstWorld : World
+firstWorld = begin 1024 1024 (record { permanent = replicate 2048 0; scratch = replicate 4096 0; map = replicate 96 0 })
+
+-- what the program writes for an input
+unfoldable pub outputOf : List ℕ → List ℕ
+outputOf input = answersOf firstWorld (linesOf [] input)
