@@ -88,6 +88,11 @@ module _ (s : State) (b : Book) (g : Good s) (e : Same s b) where
       = row-at (b .parents) (displayAt s) a h (rowOf b t) (row-nested t) p in
       (a ∷ z .0, walk-is (b .parents) (displayAt s) (a ∷ z .0) (z .1), z .2)
 
+  pub displays : (a : ℕ) → Open b a → Walk (b .parents) a (displayAt s a)
+  displays a o =
+      let n : (k : List ℕ) × Nested (b .parents) (displayAt s) (a ∷ k) = open-at a o in
+      subst (Walk (b .parents) a) (sym (n .1 .0 .display-is)) (walk-is (b .parents) (displayAt s) (a ∷ n .0) (n .1))
+
   -- ---- the display
 
   shown-occ : (a c : ℕ) → 2 ≤ a → displayHolds s a c ≡ true → 0 < occurrences a (displayAt s c)
@@ -107,6 +112,11 @@ module _ (s : State) (b : Book) (g : Good s) (e : Same s b) where
       let d : areaAt s a .depth ≡ suc (length (z .0)) = sym (length-down (rowAt s a) (areaAt s a .depth)) ∙ ap length (z .1 .0 .display-is) in
       let p : areaAt s a .depth - 1 ≡ length (z .0) = omega arith in
       rw (p, le-leb (areaAt s a .depth) (areaAt s c .depth) (omega (arith, z .3)), lt-ltb 0 (areaAt s a .depth) (omega arith)) (eq-eqb (getD (rowAt s c) (length (z .0)) 0) a (z .2))
+
+  pub looks : (a c : ℕ) → 2 ≤ a → Open b c → (displayHolds s a c ≡ true) ↔ (0 < occurrences a (displayAt s c))
+  looks a c h o =
+      let n : (k : List ℕ) × Nested (b .parents) (displayAt s) (c ∷ k) = open-at c o in
+      (shown-occ a c h, occ-shown a c h (subst (Nested (b .parents) (displayAt s)) (sym (n .1 .0 .display-is)) (n .1)))
 
   -- one look into the display says whether the scope stands on it
   verdict : (a c : ℕ) → 2 ≤ a → (k : List ℕ) → Nested (b .parents) (displayAt s) (c ∷ k) → displayHolds s a c ≡ ltb 0 (occurrences a (c ∷ k))

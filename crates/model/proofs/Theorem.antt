@@ -20,7 +20,7 @@ use Rattle.model.specs.Claims.{In, Among, Since, made, stays, Names, IsL
 use Rattle.model.proofs.Sound.{Sound}
 use Rattle.model.proofs.Keeps.{good-first}
 use Rattle.model.proofs.Agrees.{same-first}
-use Rattle.model.proofs.NestingClaims.{started, stacks, opens, parents, dropped, order, walked, scanned}
+use Rattle.model.proofs.NestingClaims.{started, stacks, opens, parents, displays, dropped, order, looks, walked, scanned}
 use Rattle.model.proofs.Live.{live-given, given-live, dead-not}
 use Rattle.model.proofs.KeepsMemory.{sound-first}
 use Rattle.model.proofs.MemoryClaims.{slot-holds, no-15, given-in, in-given}
@@ -155,6 +155,7 @@ module _ (w : World) (o : Told w) where
     stacks = stacks (w .state) b (sound .good) (sound .same);
     opens = opens (w .state) b (sound .good) (sound .same);
     parents = parents (w .state) b (sound .good) (sound .same);
+    displays = displays (w .state) b (sound .good) (sound .same);
     dropped = dropped (w .state) b (sound .good) (sound .same);
     order = order (w .state) b (sound .good) (sound .same);
     references = λ a x i j h. ⊎-elim
@@ -163,6 +164,7 @@ module _ (w : World) (o : Told w) where
         (slot-holds (w .state) (w .memory) b sound a x i (area-below (w .state) (w .memory) b sound a x i) j h);
     handles = λ x. (λ e. given-names x (live-given (w .state) (w .memory) b sound x e), names-live x);
     gone = gone-after;
+    looks = looks (w .state) b (sound .good) (sound .same);
     walked = walked (w .state) b (sound .good) (sound .same);
     scanned = scanned (w .state) b (sound .good) (sound .same);
     loads = o .loads;

@@ -101,7 +101,8 @@ pub record Claims (w : World) (b : Book) : Type 0 where
   pub stacks : (t : ℕ) → stackAt (w .state) t ≡ rowOf b t
   pub opens : (a : ℕ) → 2 ≤ a → (isOpen (w .state) a ≡ true) ↔ Open b a
   pub parents : (a : ℕ) → areaAt (w .state) a .parent ≡ b .parents a
-  -- a scope that is not open has no display
+  -- "Each open scope has a display: the row of its ancestors, outermost first, itself last." One that is not open has none.
+  pub displays : (a : ℕ) → Open b a → Walk (b .parents) a (displayAt (w .state) a)
   pub dropped : (a : ℕ) → isOpen (w .state) a ≡ false → displayAt (w .state) a ≡ []
   -- 2. "Every thread in a scope stands in all that scope's ancestors, in their order."
   pub order : (t a : ℕ) → 2 ≤ a → 0 < occurrences a (rowOf b t) → (l : List ℕ) × Walk (b .parents) a l × InOrder l (rowOf b t)
@@ -115,6 +116,8 @@ pub record Claims (w : World) (b : Book) : Type 0 where
   -- 5. "a handle whose object is gone is never accepted as one again": not after any rest of the list
   pub gone : (rest : List Element) (x : ℕ) → Among x (b .gone) → live (run w rest .state) (run w rest .memory) x ≡ false
   -- 6. "The display's verdict equals a walk of the parents for any two open scopes, and a scan of a thread's stack when both stand on it."
+  -- What one look says is whether "the core's display of B holds A".
+  pub looks : (a c : ℕ) → 2 ≤ a → Open b c → (displayHolds (w .state) a c ≡ true) ↔ (0 < occurrences a (displayAt (w .state) c))
   pub walked : (a c : ℕ) → Open b a → Open b c → (displayHolds (w .state) a c ≡ true) ↔ Meets (b .parents) a c
   pub scanned : (t a c : ℕ) → 2 ≤ a → 2 ≤ c → 0 < occurrences a (rowOf b t) → 0 < occurrences c (rowOf b t)
       → displayHolds (w .state) a c ≡ scan a c (rowOf b t)
