@@ -1,12 +1,12 @@
--- Binary digits: what a shift and a mask do to one of them, and what setting and clearing one leaves of the others.
+-- Binary digits: what a shift and a mask do to one of them or to a run of them, and what setting and clearing one leaves of the others.
 -- Assumes nothing.
 use mathlib.Core.Path.{_≡_, refl, sym, ap, ap₂, _∙_}
 use Prim.Native.Nat.{ℕ, zero, suc, _+_, _-_, _*_, _/_, _%_, _^_, _≤_, _<_, min}
-use native.Mathlib.Nat.{mod-eq-of-lt, pow-suc, one-mul}
-use native.Mathlib.Numerals.{one-add}
+use native.Mathlib.Nat.{mod-eq-of-lt, mod-lt, pow-suc, one-mul, add-zero, add-suc, add-mul, add-comm, div-add-mod'}
+use native.Mathlib.Numerals.{one-add, add-one}
 use native.Mathlib.Omega.{arith}
 use lib.Bits.{bitAnd, bitOr, and-step, and-high, or-add-and, and-le-l}
-use lib.Pow.{pow-lt, shr-shr}
+use lib.Pow.{pow-pos, pow-mono, pow-lt, shl-exact, shr-shr, split, high, mod-pow-add, ones-lt, ones-split, high-ones}
 use Rattle.bitmap.specs.Bitmap.{digit, withDigit, withoutDigit}
 
 twice : (k : ℕ) → 2 ^ suc k ≡ 2 * 2 ^ k
@@ -51,10 +51,6 @@ and-not (suc n) x b hx hb =
     let ih = and-not n (x / 2) (b / 2) (omega arith) (omega arith) in
     ap₂ (λ (u v : ℕ). u + v) (rw (half, odd) at (and-step x (2 ^ suc n - 1 - b))) (and-step x b)
     ∙ carried _ _ _ _ (x / 2) (x % 2) x ih (mins (x % 2) (b % 2) (omega arith) (omega arith)) (omega arith)
-
--- `x & !(1 << k)`
-pub and-not-pow : (x k : ℕ) → x < 2 ^ 64 → k < 64 → bitAnd x (2 ^ 64 - 1 - 2 ^ k) ≡ withoutDigit x k
-and-not-pow x k hx hk = omega (arith, and-not 64 x (2 ^ k) hx (pow-lt hk), and-pow x k)
 
 -- the digits of x are those of x / 2, after the lowest
 digit-suc : (x k : ℕ) → digit x (suc k) ≡ digit (x / 2) k
@@ -103,3 +99,47 @@ without-other x zero (suc j) h =
 without-other x (suc k) zero h = omega (arith, without-odd x k)
 without-other x (suc k) (suc j) h =
     digit-suc (withoutDigit x (suc k)) j ∙ rw (without-half x k) (without-other (x / 2) k j (λ e. h (ap suc e))) ∙ sym (digit-suc x j)
+
+-- the n digits of x from digit k on; x without them
+abbrev pub digits : ℕ → ℕ → ℕ → ℕ
+digits x k n = x / 2 ^ k % 2 ^ n
+
+unfoldable pub withoutDigits : ℕ → ℕ → ℕ → ℕ
+withoutDigits x k n = x - digits x k n * 2 ^ k
+
+-- `u64::MAX >> (64 - n)`
+ones-shr : (n : ℕ) → n ≤ 64 → (2 ^ 64 - 1) / 2 ^ (64 - n) ≡ 2 ^ n - 1
+ones-shr n h =
+    let all : n + (64 - n) ≡ 64 = omega arith in
+    rw all at (ap (λ (y : ℕ). y / 2 ^ (64 - n)) (ones-split n (64 - n)) ∙ high (2 ^ n - 1) (64 - n) (ones-lt (64 - n)))
+
+-- `x & !(u64::MAX >> (64 - n) << k)`
+pub and-not-ones : (x k n : ℕ) → x < 2 ^ 64 → k + n ≤ 64
+    → bitAnd x (2 ^ 64 - 1 - (2 ^ 64 - 1) / 2 ^ (64 - n) * 2 ^ k % 2 ^ 64) ≡ withoutDigits x k n
+unfolding withoutDigits
+and-not-ones x k n hx h =
+    let fit : n + k ≤ 64 = omega arith in
+    let mask : 2 ^ (n + k) - 2 ^ k < 2 ^ 64 = omega (arith, pow-mono fit, pow-pos k) in
+    rw (ones-shr n (omega arith), shl-exact n k 64 (ones-lt n) fit, ← high-ones n k)
+    (omega (arith, and-not 64 x (2 ^ (n + k) - 2 ^ k) hx mask, and-high x n k))
+
+-- what stands above the digits, and what stands below them
+above-below : (x k n : ℕ) → withoutDigits x k n ≡ x / 2 ^ (k + n) * 2 ^ (k + n) + x % 2 ^ k
+unfolding withoutDigits
+above-below x k n = rw (add-comm k n) (omega (arith, split x (n + k), mod-pow-add x n k))
+
+-- h pieces of size p: the pairs of them, and the one left over
+halved : (h p : ℕ) → h * p ≡ h / 2 * (2 * p) + h % 2 * p
+halved h p = omega (arith, ap (λ (y : ℕ). y * p) (div-add-mod' h 2), add-mul (h / 2 * 2) (h % 2) p)
+
+-- one digit goes after another
+pub without-none : (x k : ℕ) → withoutDigits x k 0 ≡ x
+without-none x k = above-below x k 0 ∙ rw add-zero (split x k)
+
+pub without-next : (x k n : ℕ) → withoutDigit (withoutDigits x k n) (k + n) ≡ withoutDigits x k (suc n)
+without-next x k n =
+    let le : k ≤ k + n = omega arith in
+    let below : x % 2 ^ k < 2 ^ (k + n) = omega (arith, mod-lt x (pow-pos k), pow-mono le) in
+    let half = rw add-one at (shr-shr x (k + n) 1) in
+    rw (above-below x k n, high (x / 2 ^ (k + n)) (k + n) below, above-below x k (suc n), add-suc k n, ← half, twice (k + n))
+    (omega (arith, halved (x / 2 ^ (k + n)) (2 ^ (k + n))))

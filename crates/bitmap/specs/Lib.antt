@@ -2,3 +2,4 @@
 pub mod Bitmap
 pub mod Digits
 pub mod BitmapLaws
+pub mod Runs

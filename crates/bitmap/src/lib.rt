@@ -1,9 +1,10 @@
 // The start map: bit w mod 64 of map word w / 64, read and written in place on the lent map.
 // Each function asks that its bits lie in the map: a caller has compared its length first.
 ghost use mathlib.Core.Path.{_≡_};
-ghost use Prim.Native.Nat.{_+_, _*_, _/_, _<_, _≤_};
+ghost use Prim.Native.Nat.{_+_, _-_, _*_, _/_, _%_, _<_, _≤_, min};
 ghost use lib.ListN.{length};
-ghost use Rattle.bitmap.specs.Bitmap.{bitAt, withBit, withoutBit, cleared};
+ghost use Rattle.bitmap.specs.Bitmap.{bitAt, withBit, cleared};
+ghost use Rattle.bitmap.specs.Digits.{withoutDigits};
 
 // 1 where bit w is set, else 0.
 pub fn bit(map: &[u64], w: usize) -> u64
@@ -21,22 +22,43 @@ pub fn set_bit(map: &mut [u64], w: usize)
     map[i] = map[i] | 1 << (w % 64);
 }
 
-pub fn clear_bit(map: &mut [u64], w: usize)
-    requires { ⌜ w / 64 < length (now map) ⌝ }
-    ensures { λ r. ⌜ now (map .exit) ≡ withoutBit (now (map .entry)) w ⌝ }
+// x without the n binary digits from digit k on.
+fn without_digits(x: u64, k: usize, n: usize) -> u64
+    requires { ⌜ (0 < n) × (k + n ≤ 64) ⌝ }
+    ensures { λ r. ⌜ r ≡ withoutDigits x k n ⌝ }
 {
-    let i = w / 64;
-    map[i] = map[i] & !(1 << (w % 64));
+    x & !(u64::MAX >> (64 - n) << k)
 }
 
-// Clears the n bits from bit w on.
+// How many of the n bits from bit w on lie in the map word of bit w.
+fn run_length(w: usize, n: usize) -> usize
+    ensures { λ r. ⌜ r ≡ min n (64 - w % 64) ⌝ }
+{
+    let room = 64 - w % 64;
+    if n < room {
+        return n;
+    }
+    room
+}
+
+// Clears the n bits from bit w on, which lie in one map word.
+fn clear_run(map: &mut [u64], w: usize, n: usize)
+    requires { ⌜ (w / 64 < length (now map)) × (0 < n) × (w % 64 + n ≤ 64) ⌝ }
+    ensures { λ r. ⌜ now (map .exit) ≡ cleared (now (map .entry)) w n ⌝ }
+{
+    let i = w / 64;
+    map[i] = without_digits(map[i], w % 64, n);
+}
+
+// Clears the n bits from bit w on, a map word at a time.
 pub fn clear_bits(map: &mut [u64], w: usize, n: usize)
     requires { ⌜ (w + n ≤ 64 * length (now map)) × (w + n ≤ 32768) ⌝ }
     ensures { λ r. ⌜ now (map .exit) ≡ cleared (now (map .entry)) w n ⌝ }
 {
     let mut i = 0;
     while i < n {
-        clear_bit(map, w + i);
-        i += 1;
+        let k = run_length(w + i, n - i);
+        clear_run(map, w + i, k);
+        i += k;
     }
 }

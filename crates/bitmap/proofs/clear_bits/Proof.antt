@@ -1,10 +1,11 @@
 -- `clear_bits` meets its contract. The invariant: the first i bits of the run are cleared, and the map keeps its length.
-use mathlib.Core.Path.{_≡_, refl, _∙_}
+use mathlib.Core.Path.{_≡_, refl, sym, _∙_}
 use Prim.Native.Nat.{_-_, _≤_}
 use native.Mathlib.Omega.{arith}
-use native.Mathlib.Numerals.{add-one}
 use lib.ListN.{length}
+use borrow.Author.Needs.{needs}
 use Rattle.bitmap.specs.Bitmap.{cleared}
+use Rattle.bitmap.specs.Runs.{cleared-more}
 use Rattle.bitmap.proofs.clear_bits.Statement.{statement}
 use Rattle.bitmap.proofs.clear_bits.Tie as tie
 
@@ -18,11 +19,20 @@ loop-holds : tie.Need-loop-holds Inv-loop μ-loop
 unfolding cleared
 loop-holds c = (refl, omega arith, refl)
 
-add-clear-bit : tie.Need-add-clear-bit Inv-loop μ-loop
-add-clear-bit c = omega arith
+add-run-length : tie.Need-add-run-length Inv-loop μ-loop
+add-run-length c = omega arith
 
-clear-bit-requires : tie.Need-clear-bit-requires Inv-loop μ-loop
-clear-bit-requires c κs = omega arith
+sub-run-length : tie.Need-sub-run-length Inv-loop μ-loop
+sub-run-length c = omega arith
+
+run-length-requires : tie.Need-run-length-requires Inv-loop μ-loop
+run-length-requires c κs = search needs
+
+add-clear-run : tie.Need-add-clear-run Inv-loop μ-loop
+add-clear-run c = omega arith
+
+clear-run-requires : tie.Need-clear-run-requires Inv-loop μ-loop
+clear-run-requires c κs = omega arith
 
 add-i : tie.Need-add-i Inv-loop μ-loop
 add-i c = omega arith
@@ -31,11 +41,12 @@ loop-less : tie.Need-loop-less Inv-loop μ-loop
 loop-less c = omega arith
 
 loop-again : tie.Need-loop-again Inv-loop μ-loop
-unfolding cleared
 loop-again c =
-    let t = c .before .before .before .before .before in
-    let cleared-one = c .before .before .clear-bit in
-    (rw (add-one, ← t .loop .inv .0) (cleared-one .ensures), omega arith, cleared-one .kept .0 ∙ t .loop .inv .2)
+    let t = c .before .before .before .before .before .before in
+    let a = t .before .before .args in
+    let part = c .before .before .clear-run in
+    let k = c .before .before .before .before .run-length .result in
+    (part .ensures ∙ rw (t .loop .inv .0) (sym (cleared-more (a .map .now) (a .w) (t .loop .i) k)), omega arith, part .kept .0 ∙ t .loop .inv .2)
 
 same-length : tie.Need-same-length Inv-loop μ-loop
 same-length c = c .before .loop .inv .2
@@ -52,8 +63,11 @@ clear-bits-spec =
     Inv-loop
     μ-loop
     loop-holds
-    add-clear-bit
-    clear-bit-requires
+    add-run-length
+    sub-run-length
+    run-length-requires
+    add-clear-run
+    clear-run-requires
     add-i
     loop-less
     loop-again
