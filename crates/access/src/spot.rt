@@ -7,8 +7,9 @@ ghost use mathlib.Core.Path.{_≡_};
 ghost use Prim.Native.Nat.{_<_};
 ghost use lib.ListN.{length, set};
 ghost use Rattle.layout.specs.Choice.{pick};
+ghost use Rattle.layout.specs.declared.rights.Right.the-variants.{Use};
 ghost use Rattle.model.specs.State.{isScope};
-ghost use Rattle.model.specs.Checks.{useStatus};
+ghost use Rattle.model.specs.Checks.{hasRight, useStatus};
 ghost use Rattle.tables.specs.Decode.{stateOf};
 ghost use Rattle.tables.specs.Contract.{memoryOf, Ready};
 ghost use Rattle.objects.specs.Found.{objectOf};
@@ -19,6 +20,15 @@ ghost use Rattle.access.specs.Spots.{spotOf};
 pub enum Spot {
     In(Object),
     Refused(u64),
+}
+
+// Whether a thread may use an object of an area.
+pub fn may_use(words: &[u64; 548], bytes: &[u8; 3072], t: usize, area: u64) -> bool
+    requires { ⌜ t < 16 ⌝ }
+    ensures { λ r. ⌜ r ≡ hasRight (stateOf (now (words .entry)) (now (bytes .entry))) t Use area ⌝ }
+{
+    let kind = tables::kind_at(words, t);
+    rights::allowed(kind, rights::class_of(area), Right::Use)
 }
 
 // Refusals 1, 2, 13 and 5, with which every call on an object begins.
@@ -41,8 +51,7 @@ pub fn check_use(
     let Found::At(o) = objects::lookup(words, bytes, permanent, scratch, map, p) else {
         return Spot::Refused(13);
     };
-    let kind = tables::kind_at(words, t as usize);
-    if !rights::allowed(kind, rights::class_of(o.area), Right::Use) {
+    if !may_use(words, bytes, t as usize, o.area) {
         return Spot::Refused(5);
     }
     Spot::In(o)

@@ -1,7 +1,9 @@
-// Ops 09 and 0a: a data word is written or read.
+// Ops 09 and 0a: a data word is written or read. Their checks are written out in each, refusals 1, 2,
+// 13, 5 and 14: a check that both called would be too large to be inlined, and a call hands the
+// buffers over through memory.
 use crate::spot;
-use crate::spot::Spot;
 use layout::stack::Answer;
+use objects::Found;
 ghost use mathlib.Core.Path.{_≡_};
 ghost use Rattle.model.specs.Data.{dataStatus};
 ghost use Rattle.model.specs.Calls as calls;
@@ -9,31 +11,6 @@ ghost use Rattle.tables.specs.Decode.{stateOf};
 ghost use Rattle.tables.specs.Contract.{memoryOf, Ready, Told, Written};
 ghost use Rattle.objects.specs.Found.{objectOf};
 ghost use Rattle.access.specs.Spots.{spotOf};
-
-// Refusals 1, 2, 13, 5 and 14: an object and one of its data words.
-fn check_data(
-    words: &[u64; 548],
-    bytes: &[u8; 3072],
-    permanent: &[u64],
-    scratch: &[u64],
-    map: &[u64],
-    t: u64,
-    p: u64,
-    q: u64,
-) -> Spot
-    requires { ⌜ Ready (now words) (now bytes) ⌝ }
-    ensures { λ r. ⌜ r ≡ spotOf (objectOf (stateOf (now (words .entry)) (now (bytes .entry))) (memoryOf (now (permanent .entry)) (now (scratch .entry)) (now (map .entry))) p) (dataStatus (stateOf (now (words .entry)) (now (bytes .entry))) (memoryOf (now (permanent .entry)) (now (scratch .entry)) (now (map .entry))) t p q) ⌝ }
-{
-    match spot::check_use(words, bytes, permanent, scratch, map, t, p) {
-        Spot::Refused(n) => Spot::Refused(n),
-        Spot::In(o) => {
-            if o.words <= q {
-                return Spot::Refused(14);
-            }
-            Spot::In(o)
-        }
-    }
-}
 
 // Op 09: object p, data word q, the new word; the value is 0.
 pub fn write(
@@ -51,19 +28,36 @@ pub fn write(
     ensures { λ r. ⌜ Told (r .status) (r .value) (stateOf (now (words .entry)) (now (bytes .entry))) (calls.outcomeOf (stateOf (now (words .entry)) (now (bytes .entry))) (memoryOf (now (permanent .entry)) (now (scratch .entry)) (now (map .entry))) (calls.write t p q word)) ⌝ }
     ensures { λ r. ⌜ Written (now (permanent .exit)) (now (scratch .exit)) (now (map .entry)) (calls.outcomeOf (stateOf (now (words .entry)) (now (bytes .entry))) (memoryOf (now (permanent .entry)) (now (scratch .entry)) (now (map .entry))) (calls.write t p q word)) ⌝ }
 {
-    match check_data(words, bytes, permanent, scratch, map, t, p, q) {
-        Spot::Refused(n) => Answer {
-            status: n,
+    let refusal = threads::check_caller(words, bytes, permanent, scratch, map, t);
+    if refusal != 0 {
+        return Answer {
+            status: refusal,
             value: 0,
-        },
-        Spot::In(o) => {
-            let at = o.at + 1 + (o.slots + q) as usize;
-            spot::put_word(permanent, scratch, o.area, at, word);
-            Answer {
-                status: 0,
-                value: 0,
-            }
-        }
+        };
+    }
+    let Found::At(o) = objects::lookup(words, bytes, permanent, scratch, map, p) else {
+        return Answer {
+            status: 13,
+            value: 0,
+        };
+    };
+    if !spot::may_use(words, bytes, t as usize, o.area) {
+        return Answer {
+            status: 5,
+            value: 0,
+        };
+    }
+    if o.words <= q {
+        return Answer {
+            status: 14,
+            value: 0,
+        };
+    }
+    let at = o.at + 1 + (o.slots + q) as usize;
+    spot::put_word(permanent, scratch, o.area, at, word);
+    Answer {
+        status: 0,
+        value: 0,
     }
 }
 
@@ -81,17 +75,32 @@ pub fn read(
     requires { ⌜ Ready (now words) (now bytes) ⌝ }
     ensures { λ r. ⌜ Told (r .status) (r .value) (stateOf (now (words .entry)) (now (bytes .entry))) (calls.outcomeOf (stateOf (now (words .entry)) (now (bytes .entry))) (memoryOf (now (permanent .entry)) (now (scratch .entry)) (now (map .entry))) (calls.read t p q)) ⌝ }
 {
-    match check_data(words, bytes, permanent, scratch, map, t, p, q) {
-        Spot::Refused(n) => Answer {
-            status: n,
+    let caller = threads::check_caller(words, bytes, permanent, scratch, map, t);
+    if caller != 0 {
+        return Answer {
+            status: caller,
             value: 0,
-        },
-        Spot::In(o) => {
-            let from = o.at + 1 + (o.slots + q) as usize;
-            Answer {
-                status: 0,
-                value: objects::word_at(permanent, scratch, o.area, from),
-            }
-        }
+        };
     }
+    let Found::At(x) = objects::lookup(words, bytes, permanent, scratch, map, p) else {
+        return Answer {
+            status: 13,
+            value: 0,
+        };
+    };
+    if !spot::may_use(words, bytes, t as usize, x.area) {
+        return Answer {
+            status: 5,
+            value: 0,
+        };
+    }
+    if x.words <= q {
+        return Answer {
+            status: 14,
+            value: 0,
+        };
+    }
+    let from = x.at + 1 + (x.slots + q) as usize;
+    let value = objects::word_at(permanent, scratch, x.area, from);
+    Answer { status: 0, value }
 }

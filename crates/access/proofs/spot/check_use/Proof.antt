@@ -7,14 +7,11 @@ use Rattle.tables.specs.Decode.{stateOf}
 use Rattle.tables.specs.Contract.{memoryOf}
 use native.Mathlib.Omega.{arith}
 use borrow.Author.Tests.{not-true, not-false}
-use Rattle.layout.specs.declared.rights.Right.the-variants.{Use}
-use Rattle.model.specs.Checks.{hasRight}
 use Rattle.model.proofs.Accepted.{Admitted}
 use Rattle.threads.specs.Outcomes.{caller-admitted}
 use Rattle.objects.specs.declared.find.Found.the-variants.{At}
 use Rattle.objects.specs.Found.{foundOf}
 use Rattle.objects.specs.Places.{at-live}
-use Rattle.objects.specs.Rights.{right-read}
 use Rattle.access.specs.Spots.{in-spot, refused-spot}
 use Rattle.access.specs.Statuses.{use-not-called, use-nothing, use-no-right, use-right}
 use Rattle.access.proofs.spot.check_use.Statement.{statement}
@@ -33,17 +30,12 @@ memory c = memoryOf (now (start c .args .permanent)) (now (start c .args .scratc
 called : (c : tie.Else1) → Admitted (state c) (memory c) (start c .args .t)
 called c = caller-admitted (state c) (memory c) (start c .args .t) (c .before .check-caller .ensures) (c .if1 .left)
 
--- the object that is found, and the thread's right to use it
+-- the object that is found
 abbrev past : tie.After-known-told → tie.Else1
 past c = c .before .before .before .before
 
 seen : (c : tie.After-known-told) → At (c .before .o .given .0 .0) ≡ foundOf (state (past c)) (memory (past c)) (start (past c) .args .p)
 seen c = sym (c .before .o .given .1) ∙ c .before .before .before .lookup .ensures
-
-right : (c : tie.After-allowed) → hasRight (state (past (c .before .before .before))) (start (past (c .before .before .before)) .args .t) Use (c .before .before .before .before .o .given .0 .0 .area) ≡ c .allowed .result
-right c =
-    let d = past (c .before .before .before) in
-    right-read (now (start d .args .words)) (now (start d .args .bytes)) (start d .args .t) _ Use (called d .thread) (c .allowed .ensures) (c .before .before .kind-at .ensures) (c .before .class-of .ensures)
 
 check-caller-requires : tie.Need-check-caller-requires
 check-caller-requires c κs = search needs
@@ -65,24 +57,18 @@ returns-2 c =
     let d = c .before .before .before in
     refused-spot _ (λ z. omega arith) (use-nothing _ _ _ _ (start d .pre .good) (called d) (sym (c .enum-told .given .1) ∙ c .before .before .lookup .ensures))
 
-kind-at-requires : tie.Need-kind-at-requires
-kind-at-requires c κs = called (past c) .thread
-
-class-of-requires : tie.Need-class-of-requires
-class-of-requires c κs = search needs
-
-allowed-requires : tie.Need-allowed-requires
-allowed-requires c κs = search needs
+may-use-requires : tie.Need-may-use-requires
+may-use-requires c κs = called (past c) .thread
 
 returns-3 : tie.Need-returns-3
 returns-3 c =
-    let d = c .before .before .before .before in
-    refused-spot _ (λ z. omega arith) (use-no-right _ _ _ _ (start (past d) .pre .good) (called (past d)) _ (seen d) (right (c .before) ∙ not-true (c .before .allowed .result) (c .if2 .taken)))
+    let d = c .before .before in
+    refused-spot _ (λ z. omega arith) (use-no-right _ _ _ _ (start (past d) .pre .good) (called (past d)) _ (seen d) (sym (c .before .may-use .ensures) ∙ not-true (c .before .may-use .result) (c .if2 .taken)))
 
 returns-4 : tie.Need-returns-4
 returns-4 c =
-    let d = c .before .before .before .before in
-    in-spot _ (at-live _ _ _ _ (seen d) .1) (use-right _ _ _ _ (start (past d) .pre .good) (called (past d)) _ (seen d) (right (c .before) ∙ not-false (c .before .allowed .result) (c .if2 .left)))
+    let d = c .before .before in
+    in-spot _ (at-live _ _ _ _ (seen d) .1) (use-right _ _ _ _ (start (past d) .pre .good) (called (past d)) _ (seen d) (sym (c .before .may-use .ensures) ∙ not-false (c .before .may-use .result) (c .if2 .left)))
 
 pub check-use-spec : {M : Type 1} → statement M
 check-use-spec =
@@ -94,8 +80,6 @@ check-use-spec =
     enum-known-o
     enum-told
     returns-2
-    kind-at-requires
-    class-of-requires
-    allowed-requires
+    may-use-requires
     returns-3
     returns-4)
