@@ -6,7 +6,9 @@ mod shown; // shown.rt: an object's data as a part of its store
 
 pub use references::load;
 pub use references::store;
+pub use shown::Part;
 pub use shown::view;
+pub use shown::view_place;
 pub use shown::view_status;
 pub use words::read;
 pub use words::write;

@@ -1,0 +1,158 @@
+// Ops 06 to 0a: an object is allocated, its slots are stored and loaded, its data words written and
+// read; and its data as a part of its store.
+use access::Part;
+use layout::stack::Answer;
+ghost use mathlib.Core.Path.{_≡_};
+ghost use Rattle.model.specs.Calls as calls;
+ghost use Rattle.tables.specs.Decode.{stateOf};
+ghost use Rattle.tables.specs.Contract.{memoryOf, Ready, Done, Told, Written};
+ghost use Rattle.access.specs.Shown.{partOf};
+
+// Op 06: an object with so many slots and data words in the current area; the value is its handle.
+#[no_mangle]
+pub extern "C" fn scopes_allocate(
+    words: &mut [u64; 548],
+    bytes: &[u8; 3072],
+    permanent: &mut [u64],
+    scratch: &mut [u64],
+    map: &mut [u64],
+    t: u64,
+    slots: u64,
+    data_words: u64,
+) -> Answer
+    requires { ⌜ Ready (now words) (now bytes) ⌝ }
+    ensures { λ r. ⌜ Done (r .status) (r .value) (now (words .exit)) (now (bytes .entry)) (calls.outcomeOf (stateOf (now (words .entry)) (now (bytes .entry))) (memoryOf (now (permanent .entry)) (now (scratch .entry)) (now (map .entry))) (calls.allocate t slots data_words)) ⌝ }
+    ensures { λ r. ⌜ Written (now (permanent .exit)) (now (scratch .exit)) (now (map .exit)) (calls.outcomeOf (stateOf (now (words .entry)) (now (bytes .entry))) (memoryOf (now (permanent .entry)) (now (scratch .entry)) (now (map .entry))) (calls.allocate t slots data_words)) ⌝ }
+{
+    objects::allocate(words, bytes, permanent, scratch, map, t, slots, data_words)
+}
+
+// Op 07: a reference to a target, or null, is stored in a slot of an object.
+#[no_mangle]
+pub extern "C" fn scopes_store(
+    words: &[u64; 548],
+    bytes: &[u8; 3072],
+    permanent: &mut [u64],
+    scratch: &mut [u64],
+    map: &[u64],
+    t: u64,
+    object: u64,
+    slot: u64,
+    target: u64,
+) -> Answer
+    requires { ⌜ Ready (now words) (now bytes) ⌝ }
+    ensures { λ r. ⌜ Told (r .status) (r .value) (stateOf (now (words .entry)) (now (bytes .entry))) (calls.outcomeOf (stateOf (now (words .entry)) (now (bytes .entry))) (memoryOf (now (permanent .entry)) (now (scratch .entry)) (now (map .entry))) (calls.store t object slot target)) ⌝ }
+    ensures { λ r. ⌜ Written (now (permanent .exit)) (now (scratch .exit)) (now (map .entry)) (calls.outcomeOf (stateOf (now (words .entry)) (now (bytes .entry))) (memoryOf (now (permanent .entry)) (now (scratch .entry)) (now (map .entry))) (calls.store t object slot target)) ⌝ }
+{
+    access::store(
+        words,
+        bytes,
+        permanent,
+        scratch,
+        map,
+        t,
+        object,
+        slot,
+        target,
+    )
+}
+
+// Op 08: the value is the reference in a slot of an object.
+#[no_mangle]
+pub extern "C" fn scopes_load(
+    words: &[u64; 548],
+    bytes: &[u8; 3072],
+    permanent: &[u64],
+    scratch: &[u64],
+    map: &[u64],
+    t: u64,
+    object: u64,
+    slot: u64,
+) -> Answer
+    requires { ⌜ Ready (now words) (now bytes) ⌝ }
+    ensures { λ r. ⌜ Told (r .status) (r .value) (stateOf (now (words .entry)) (now (bytes .entry))) (calls.outcomeOf (stateOf (now (words .entry)) (now (bytes .entry))) (memoryOf (now (permanent .entry)) (now (scratch .entry)) (now (map .entry))) (calls.load t object slot)) ⌝ }
+{
+    access::load(words, bytes, permanent, scratch, map, t, object, slot)
+}
+
+// Op 09: a data word of an object is written.
+#[no_mangle]
+pub extern "C" fn scopes_write(
+    words: &[u64; 548],
+    bytes: &[u8; 3072],
+    permanent: &mut [u64],
+    scratch: &mut [u64],
+    map: &[u64],
+    t: u64,
+    object: u64,
+    index: u64,
+    word: u64,
+) -> Answer
+    requires { ⌜ Ready (now words) (now bytes) ⌝ }
+    ensures { λ r. ⌜ Told (r .status) (r .value) (stateOf (now (words .entry)) (now (bytes .entry))) (calls.outcomeOf (stateOf (now (words .entry)) (now (bytes .entry))) (memoryOf (now (permanent .entry)) (now (scratch .entry)) (now (map .entry))) (calls.write t object index word)) ⌝ }
+    ensures { λ r. ⌜ Written (now (permanent .exit)) (now (scratch .exit)) (now (map .entry)) (calls.outcomeOf (stateOf (now (words .entry)) (now (bytes .entry))) (memoryOf (now (permanent .entry)) (now (scratch .entry)) (now (map .entry))) (calls.write t object index word)) ⌝ }
+{
+    access::write(
+        words,
+        bytes,
+        permanent,
+        scratch,
+        map,
+        t,
+        object,
+        index,
+        word,
+    )
+}
+
+// Op 0a: the value is a data word of an object.
+#[no_mangle]
+pub extern "C" fn scopes_read(
+    words: &[u64; 548],
+    bytes: &[u8; 3072],
+    permanent: &[u64],
+    scratch: &[u64],
+    map: &[u64],
+    t: u64,
+    object: u64,
+    index: u64,
+) -> Answer
+    requires { ⌜ Ready (now words) (now bytes) ⌝ }
+    ensures { λ r. ⌜ Told (r .status) (r .value) (stateOf (now (words .entry)) (now (bytes .entry))) (calls.outcomeOf (stateOf (now (words .entry)) (now (bytes .entry))) (memoryOf (now (permanent .entry)) (now (scratch .entry)) (now (map .entry))) (calls.read t object index)) ⌝ }
+{
+    access::read(words, bytes, permanent, scratch, map, t, object, index)
+}
+
+// The status of showing an object's data.
+#[no_mangle]
+pub extern "C" fn scopes_view_status(
+    words: &[u64; 548],
+    bytes: &[u8; 3072],
+    permanent: &[u64],
+    scratch: &[u64],
+    map: &[u64],
+    t: u64,
+    object: u64,
+) -> Answer
+    requires { ⌜ Ready (now words) (now bytes) ⌝ }
+    ensures { λ r. ⌜ Told (r .status) (r .value) (stateOf (now (words .entry)) (now (bytes .entry))) (calls.outcomeOf (stateOf (now (words .entry)) (now (bytes .entry))) (memoryOf (now (permanent .entry)) (now (scratch .entry)) (now (map .entry))) (calls.viewed t object)) ⌝ }
+{
+    access::view_status(words, bytes, permanent, scratch, map, t, object)
+}
+
+// Where its data lie: a store, the first word and how many; what `access::view` shows.
+#[no_mangle]
+pub extern "C" fn scopes_view_place(
+    words: &[u64; 548],
+    bytes: &[u8; 3072],
+    permanent: &[u64],
+    scratch: &[u64],
+    map: &[u64],
+    t: u64,
+    object: u64,
+) -> Part
+    requires { ⌜ Ready (now words) (now bytes) ⌝ }
+    ensures { λ r. ⌜ r ≡ partOf (stateOf (now (words .entry)) (now (bytes .entry))) (memoryOf (now (permanent .entry)) (now (scratch .entry)) (now (map .entry))) t object ⌝ }
+{
+    access::view_place(words, bytes, permanent, scratch, map, t, object)
+}

@@ -1,0 +1,106 @@
+// Set-up, and ops 01 to 05: threads start and end, scopes are made, entered and left.
+use layout::stack::Answer;
+use setup::SetUp;
+ghost use Rattle.model.specs.SetUp.{lengthsOf};
+ghost use Rattle.model.specs.Calls as calls;
+ghost use Rattle.tables.specs.Decode.{stateOf};
+ghost use Rattle.tables.specs.Contract.{memoryOf, Ready, Done};
+ghost use Rattle.setup.specs.First.{Begun};
+
+// Set-up: the first h words of the permanent store are the heap's, the other i immortal memory's.
+#[no_mangle]
+pub extern "C" fn scopes_set_up(
+    permanent: &[u64],
+    scratch: &[u64],
+    map: &[u64],
+    h: u64,
+    i: u64,
+) -> SetUp
+    ensures { λ r. ⌜ Begun (r .status) (r .words) (r .bytes) h i (lengthsOf (memoryOf (now (permanent .entry)) (now (scratch .entry)) (now (map .entry)))) ⌝ }
+{
+    setup::set_up(permanent, scratch, map, h, i)
+}
+
+// Op 01: thread t starts, of a kind.
+#[no_mangle]
+pub extern "C" fn scopes_start(
+    words: &mut [u64; 548],
+    bytes: &[u8; 3072],
+    permanent: &[u64],
+    scratch: &[u64],
+    map: &[u64],
+    t: u64,
+    kind: u64,
+) -> Answer
+    requires { ⌜ Ready (now words) (now bytes) ⌝ }
+    ensures { λ r. ⌜ Done (r .status) (r .value) (now (words .exit)) (now (bytes .entry)) (calls.outcomeOf (stateOf (now (words .entry)) (now (bytes .entry))) (memoryOf (now (permanent .entry)) (now (scratch .entry)) (now (map .entry))) (calls.start t kind)) ⌝ }
+{
+    threads::start(words, bytes, permanent, scratch, map, t, kind)
+}
+
+// Op 02: thread t ends.
+#[no_mangle]
+pub extern "C" fn scopes_end(
+    words: &mut [u64; 548],
+    bytes: &[u8; 3072],
+    permanent: &[u64],
+    scratch: &[u64],
+    map: &[u64],
+    t: u64,
+) -> Answer
+    requires { ⌜ Ready (now words) (now bytes) ⌝ }
+    ensures { λ r. ⌜ Done (r .status) (r .value) (now (words .exit)) (now (bytes .entry)) (calls.outcomeOf (stateOf (now (words .entry)) (now (bytes .entry))) (memoryOf (now (permanent .entry)) (now (scratch .entry)) (now (map .entry))) (calls.end t)) ⌝ }
+{
+    threads::end(words, bytes, permanent, scratch, map, t)
+}
+
+// Op 03: a scope is made, of a size in words.
+#[no_mangle]
+pub extern "C" fn scopes_make(
+    words: &mut [u64; 548],
+    bytes: &[u8; 3072],
+    permanent: &[u64],
+    scratch: &[u64],
+    map: &[u64],
+    t: u64,
+    area: u64,
+    size: u64,
+) -> Answer
+    requires { ⌜ Ready (now words) (now bytes) ⌝ }
+    ensures { λ r. ⌜ Done (r .status) (r .value) (now (words .exit)) (now (bytes .entry)) (calls.outcomeOf (stateOf (now (words .entry)) (now (bytes .entry))) (memoryOf (now (permanent .entry)) (now (scratch .entry)) (now (map .entry))) (calls.make t area size)) ⌝ }
+{
+    areas::make::make(words, bytes, permanent, scratch, map, t, area, size)
+}
+
+// Op 04: an area is entered; the value is its generation.
+#[no_mangle]
+pub extern "C" fn scopes_enter(
+    words: &mut [u64; 548],
+    bytes: &mut [u8; 3072],
+    permanent: &[u64],
+    scratch: &[u64],
+    map: &[u64],
+    t: u64,
+    area: u64,
+) -> Answer
+    requires { ⌜ Ready (now words) (now bytes) ⌝ }
+    ensures { λ r. ⌜ Done (r .status) (r .value) (now (words .exit)) (now (bytes .exit)) (calls.outcomeOf (stateOf (now (words .entry)) (now (bytes .entry))) (memoryOf (now (permanent .entry)) (now (scratch .entry)) (now (map .entry))) (calls.enter t area)) ⌝ }
+{
+    entry::enter(words, bytes, permanent, scratch, map, t, area)
+}
+
+// Op 05: the current area is left; the value is the count that is left of a scope, else 0.
+#[no_mangle]
+pub extern "C" fn scopes_exit(
+    words: &mut [u64; 548],
+    bytes: &[u8; 3072],
+    permanent: &[u64],
+    scratch: &[u64],
+    map: &[u64],
+    t: u64,
+) -> Answer
+    requires { ⌜ Ready (now words) (now bytes) ⌝ }
+    ensures { λ r. ⌜ Done (r .status) (r .value) (now (words .exit)) (now (bytes .entry)) (calls.outcomeOf (stateOf (now (words .entry)) (now (bytes .entry))) (memoryOf (now (permanent .entry)) (now (scratch .entry)) (now (map .entry))) (calls.exit t)) ⌝ }
+{
+    areas::exit::exit(words, bytes, permanent, scratch, map, t)
+}
