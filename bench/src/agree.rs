@@ -4,7 +4,7 @@
 use reference::random::Random;
 
 use crate::machine::{Core, Machine, Plain, SCAN, WALK};
-use crate::plain::Answer;
+use plain::Answer;
 
 const LISTS: u64 = 100;
 const CALLS: u64 = 2_000;

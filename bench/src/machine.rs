@@ -2,7 +2,7 @@
 
 use exports::exports as c;
 
-use crate::plain::{self, Answer, State};
+use plain::{Answer, State};
 
 /// Sizes of the lent buffers, the same on both sides.
 pub const PERMANENT: usize = 2_048;

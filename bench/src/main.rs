@@ -1,24 +1,24 @@
 //! Measures the exported functions beside plain Rust and writes the report in Markdown.
 //!
-//! `bench` prints the report and writes the plot to the file that it is given. `bench count ROW SIDE
-//! CALLS` only makes the calls of a row on one side, for a tool that counts instructions.
+//! `bench PLOT.svg` prints the report and writes the plot. `bench count ROW SIDE CALLS` only makes the
+//! calls of a row on one side, for a tool that counts instructions; `bench rows` names the rows.
 
 mod agree;
 mod machine;
 mod measure;
-mod plain;
 mod plot;
 mod report;
 mod scenes;
 
 use machine::{Core, Machine, Plain, SCAN, WALK};
+use measure::Loop;
 use scenes::{Nest, Room};
 
-/// Calls of one run.
-const CALLS: u64 = 20_000;
 /// How deep the calls on objects are nested, and how far above their target is.
 const DEPTH: u64 = 8;
 const DISTANCE: u64 = 4;
+/// Those of the reference check: from the scope itself to the outermost of 32.
+const DISTANCES: [u64; 7] = [0, 1, 2, 4, 8, 16, 31];
 
 /// A row of the first table.
 struct Row {
@@ -45,7 +45,7 @@ const fn row(name: &'static str, limit: f64) -> Row {
 }
 
 /// The loop of a row on one side.
-fn row_loop<M: Machine + 'static>(row: usize) -> Box<dyn FnMut(u64)> {
+fn row_loop<M: Machine + 'static>(row: usize) -> Loop {
     let (mut nest, mut room) = (Nest::<M>::new(DEPTH), Room::<M>::new());
     match row {
         0 => Box::new(move |calls| nest.store(calls, DISTANCE)),
@@ -61,42 +61,44 @@ fn row_loop<M: Machine + 'static>(row: usize) -> Box<dyn FnMut(u64)> {
 }
 
 fn measure_rows() -> Vec<report::Figure> {
-    let figures = ROWS.iter().enumerate().map(|(place, row)| {
-        let (mut core, mut plain) = (row_loop::<Core>(place), row_loop::<Plain>(place));
-        let best = measure::best(CALLS, &mut [&mut *core, &mut *plain]);
-        report::Figure {
-            name: row.name,
-            limit: row.limit,
-            core: best[0],
-            plain: best[1],
-        }
+    let places = 0..ROWS.len();
+    let loops = places.flat_map(|place| [row_loop::<Core>(place), row_loop::<Plain>(place)]);
+    let best = measure::best(&mut loops.collect::<Vec<Loop>>());
+    let pairs = ROWS.iter().zip(best.chunks(2));
+    let figures = pairs.map(|(row, best)| report::Figure {
+        name: row.name,
+        limit: row.limit,
+        core: best[0],
+        plain: best[1],
     });
     figures.collect()
 }
 
-/// The reference check at a nesting distance, on a stack of 32 scopes.
-fn measure_distance(distance: u64) -> report::Check {
-    let depth = 32 - 1;
-    let mut core = Nest::<Core>::new(depth + 1);
-    let mut display = Nest::<Plain>::new(depth + 1);
-    let mut walk = Nest::<Plain<WALK>>::new(depth + 1);
-    let mut scan = Nest::<Plain<SCAN>>::new(depth + 1);
-    let best = measure::best(
-        CALLS,
-        &mut [
-            &mut |calls| core.store(calls, distance),
-            &mut |calls| display.store(calls, distance),
-            &mut |calls| walk.store(calls, distance),
-            &mut |calls| scan.store(calls, distance),
-        ],
-    );
-    report::Check {
+/// The reference check at nesting distances, on a stack of 32 scopes.
+fn measure_checks() -> Vec<report::Check> {
+    let loops = DISTANCES.iter().flat_map(|&distance| {
+        [
+            store_loop::<Core>(distance),
+            store_loop::<Plain>(distance),
+            store_loop::<Plain<WALK>>(distance),
+            store_loop::<Plain<SCAN>>(distance),
+        ]
+    });
+    let best = measure::best(&mut loops.collect::<Vec<Loop>>());
+    let rows = DISTANCES.iter().zip(best.chunks(4));
+    let checks = rows.map(|(&distance, best)| report::Check {
         distance,
         core: best[0],
         display: best[1],
         walk: best[2],
         scan: best[3],
-    }
+    });
+    checks.collect()
+}
+
+fn store_loop<M: Machine + 'static>(distance: u64) -> Loop {
+    let mut nest = Nest::<M>::new(32);
+    Box::new(move |calls| nest.store(calls, distance))
 }
 
 /// Makes the calls of a row on one side and nothing else.
@@ -118,6 +120,10 @@ fn main() {
     let words: Vec<String> = std::env::args().skip(1).collect();
     let done = match words.split_first() {
         Some((word, rest)) if word == "count" => count(rest),
+        Some((word, [])) if word == "rows" => {
+            ROWS.iter().for_each(|row| println!("{}", row.name));
+            Some(())
+        }
         Some((plot, [])) => {
             measure_all(plot);
             Some(())
@@ -125,7 +131,7 @@ fn main() {
         _ => None,
     };
     if done.is_none() {
-        eprintln!("usage: bench PLOT.svg, or bench count ROW core|plain CALLS");
+        eprintln!("usage: bench PLOT.svg, bench rows, or bench count ROW core|plain CALLS");
         std::process::exit(2);
     }
 }
@@ -133,7 +139,7 @@ fn main() {
 fn measure_all(plot: &str) {
     agree::check();
     let figures = measure_rows();
-    let checks = [0, 1, 2, 4, 8, 16, 31].map(measure_distance);
+    let checks = measure_checks();
     report::print(&figures, &checks);
     std::fs::write(plot, plot::svg(&checks)).expect("the plot can be written");
 }

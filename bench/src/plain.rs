@@ -216,7 +216,7 @@ impl State {
     }
 }
 
-// ---- ops 01 to 03, which are not measured
+// ---- ops 01 and 03, which are not measured
 
 pub fn start(st: &mut State, p: &[u64], s: &[u64], m: &[u64], t: u64, kind: u64) -> Answer {
     if !st.fits(p, s, m) {
@@ -233,17 +233,6 @@ pub fn start(st: &mut State, p: &[u64], s: &[u64], m: &[u64], t: u64, kind: u64)
     }
     thread.kind = kind;
     accepted(0)
-}
-
-pub fn end(st: &mut State, p: &[u64], s: &[u64], m: &[u64], t: u64) -> Answer {
-    match st.caller(p, s, m, t) {
-        Err(status) => refused(status),
-        Ok(thread) if thread.len > 0 => refused(11),
-        Ok(_) => {
-            st.threads[t as usize].kind = 0;
-            accepted(0)
-        }
-    }
 }
 
 pub fn make(

@@ -3,7 +3,7 @@
 use std::hint::black_box;
 
 use crate::machine::{Machine, SCRATCH};
-use crate::plain::Answer;
+use plain::Answer;
 
 /// The thread of all calls; it is real-time, so that it may do everything.
 const T: u64 = 0;
