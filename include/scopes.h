@@ -94,7 +94,8 @@ typedef struct scopes_answer {
 } scopes_answer;
 
 /* What set-up gives: its status, and the state in two tables. Where the status is 1 the state is the one of empty
- * buffers. The tables may stay in this record or be moved elsewhere once, before the first call. */
+ * buffers. The tables may stay in this record or be moved elsewhere before the first call; where the words lie at a
+ * multiple of 64 bytes and the bytes right behind them, no display crosses a cache line, and entries are fastest. */
 typedef struct scopes_new_state {
     uint64_t status;
     uint64_t words[SCOPES_STATE_WORDS];

@@ -42,8 +42,15 @@ impl Lent {
 
 // ---- the exported functions
 
+/// The state's tables, where no row of 32 bytes crosses a cache line.
+#[repr(C, align(64))]
+struct Tables {
+    words: [u64; 548],
+    bytes: [u8; 3072],
+}
+
 pub struct Core {
-    state: Box<c::NewState>,
+    state: Box<Tables>,
     lent: Lent,
 }
 
@@ -86,7 +93,8 @@ impl Machine for Core {
             )
         };
         assert_eq!(state.status, 0);
-        let state = Box::new(state);
+        let c::NewState { words, bytes, .. } = state;
+        let state = Box::new(Tables { words, bytes });
         Core { state, lent }
     }
 

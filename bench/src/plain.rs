@@ -33,6 +33,7 @@ pub struct Thread {
 }
 
 #[derive(Clone)]
+#[repr(align(64))]
 pub struct State {
     pub areas: [Area; 64],
     pub threads: [Thread; 16],

@@ -14,9 +14,16 @@ pub struct Memory<'m> {
 /// A state, as set-up and the calls since have left it. In a box, so that moving it copies nothing.
 pub struct State(Box<Tables>);
 
-/// What set-up gives: its status and the state's tables.
-#[repr(C)]
+/// A state's tables, placed so that no row of 32 bytes crosses a cache line.
+#[repr(C, align(64))]
 struct Tables {
+    words: [u64; 548],
+    bytes: [u8; 3072],
+}
+
+/// What set-up gives: its status and the tables.
+#[repr(C)]
+struct NewState {
     status: u64,
     words: [u64; 548],
     bytes: [u8; 3072],
@@ -90,7 +97,7 @@ extern "C" {
         map_len: usize,
         heap: u64,
         immortal: u64,
-    ) -> Tables;
+    ) -> NewState;
     fn scopes_stack_empty() -> StackRecord;
     fn scopes_stack_push(stack: *mut StackRecord, area: u64) -> Answer;
     fn scopes_stack_pop(stack: *mut StackRecord) -> Answer;
@@ -146,7 +153,11 @@ pub fn set_up(memory: &Memory, heap: u64, immortal: u64) -> (u64, State) {
         map,
     } = memory;
     // SAFETY: each buffer is a slice with its own length, borrowed for the call, which only reads.
-    let tables = unsafe {
+    let NewState {
+        status,
+        words,
+        bytes,
+    } = unsafe {
         scopes_set_up(
             permanent.as_ptr(),
             permanent.len(),
@@ -158,7 +169,7 @@ pub fn set_up(memory: &Memory, heap: u64, immortal: u64) -> (u64, State) {
             immortal,
         )
     };
-    (tables.status, State(Box::new(tables)))
+    (status, State(Box::new(Tables { words, bytes })))
 }
 
 pub fn stack_empty() -> StackRecord {
