@@ -4,7 +4,7 @@ use std::fmt::Write;
 
 use crate::report::Check;
 
-const WIDTH: f64 = 760.0;
+const WIDTH: f64 = 800.0;
 const HEIGHT: f64 = 460.0;
 /// The plotted field.
 const LEFT: f64 = 70.0;
