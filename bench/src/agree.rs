@@ -3,8 +3,7 @@
 
 use reference::random::Random;
 
-use crate::machine::{Core, Machine, Plain, SCAN, WALK};
-use plain::Answer;
+use crate::machine::{Answer, Core, InLine, Machine, Plain, Scan, Walk};
 
 const LISTS: u64 = 100;
 const CALLS: u64 = 2_000;
@@ -17,10 +16,14 @@ pub fn check() {
             "plain Rust differs, seed {seed}"
         );
         assert!(
-            core == answers::<Plain<WALK>>(seed),
+            core == answers::<InLine>(seed),
+            "plain Rust in line differs, seed {seed}"
+        );
+        assert!(
+            core == answers::<Walk>(seed),
             "the walk differs, seed {seed}"
         );
-        let scanned = answers::<Plain<SCAN>>(seed);
+        let scanned = answers::<Scan>(seed);
         assert!(
             alike_but_for_the_scan(&core, &scanned),
             "the scan differs, seed {seed}"

@@ -1,14 +1,19 @@
-//! The two sides that are measured, behind one set of calls: the exported functions, and plain Rust.
+//! The sides that are measured, behind one set of calls: the exported functions, and plain Rust.
 
 use exports::exports as c;
-
-use plain::{Answer, State};
 
 /// Sizes of the lent buffers, the same on both sides.
 pub const PERMANENT: usize = 2_048;
 pub const HEAP: u64 = 1_024;
 pub const SCRATCH: usize = 16_384;
 pub const MAP: usize = (PERMANENT + SCRATCH) / 64;
+
+/// What a call answers, on every side.
+#[derive(Clone, Copy, Debug, PartialEq, Eq)]
+pub struct Answer {
+    pub status: u64,
+    pub value: u64,
+}
 
 pub trait Machine {
     fn set_up() -> Self;
@@ -144,134 +149,104 @@ impl Machine for Core {
     }
 }
 
-// ---- plain Rust, with the assignment rule by display, by walk or by scan
+// ---- plain Rust
 
-pub const DISPLAY: u8 = 0;
-pub const WALK: u8 = 1;
-pub const SCAN: u8 = 2;
-
-pub struct Plain<const RULE: u8 = DISPLAY> {
-    state: Box<State>,
-    lent: Lent,
+/// A call of a plain function with the state, the buffers and numbers.
+macro_rules! run {
+    ($function:path, $state:expr, $lent:expr, $($number:expr),*) => {{
+        let Lent { permanent, scratch, map } = $lent;
+        let answer = $function($state, permanent, scratch, map, $($number),*);
+        Answer { status: answer.status, value: answer.value }
+    }};
 }
-
-impl<const RULE: u8> Machine for Plain<RULE> {
-    fn set_up() -> Plain<RULE> {
-        Plain {
-            state: Box::new(State::set_up(PERMANENT, SCRATCH, MAP, HEAP)),
-            lent: Lent::new(),
+/// A side over one compilation of plain Rust, with one of its stores.
+macro_rules! plain_side {
+    ($side:ident, $module:ident, $store:ident) => {
+        pub struct $side {
+            state: Box<$module::State>,
+            lent: Lent,
         }
-    }
 
-    #[inline(always)]
-    fn start(&mut self, t: u64, kind: u64) -> Answer {
-        let Plain { state, lent } = self;
-        plain::start(state, &lent.permanent, &lent.scratch, &lent.map, t, kind)
-    }
+        impl Machine for $side {
+            fn set_up() -> $side {
+                $side {
+                    state: Box::new($module::State::set_up(PERMANENT, SCRATCH, MAP, HEAP)),
+                    lent: Lent::new(),
+                }
+            }
 
-    #[inline(always)]
-    fn make(&mut self, t: u64, area: u64, size: u64) -> Answer {
-        let Plain { state, lent } = self;
-        plain::make(
-            state,
-            &lent.permanent,
-            &lent.scratch,
-            &lent.map,
-            t,
-            area,
-            size,
-        )
-    }
+            #[inline(always)]
+            fn start(&mut self, t: u64, kind: u64) -> Answer {
+                run!($module::start, &mut self.state, &self.lent, t, kind)
+            }
 
-    #[inline(always)]
-    fn enter(&mut self, t: u64, area: u64) -> Answer {
-        let Plain { state, lent } = self;
-        plain::enter(state, &lent.permanent, &lent.scratch, &lent.map, t, area)
-    }
+            #[inline(always)]
+            fn make(&mut self, t: u64, area: u64, size: u64) -> Answer {
+                run!($module::make, &mut self.state, &self.lent, t, area, size)
+            }
 
-    #[inline(always)]
-    fn exit(&mut self, t: u64) -> Answer {
-        let Plain { state, lent } = self;
-        plain::exit(state, &lent.permanent, &lent.scratch, &lent.map, t)
-    }
+            #[inline(always)]
+            fn enter(&mut self, t: u64, area: u64) -> Answer {
+                run!($module::enter, &mut self.state, &self.lent, t, area)
+            }
 
-    #[inline(always)]
-    fn allocate(&mut self, t: u64, slots: u64, data_words: u64) -> Answer {
-        let Lent {
-            permanent,
-            scratch,
-            map,
-        } = &mut self.lent;
-        plain::allocate(
-            &mut self.state,
-            permanent,
-            scratch,
-            map,
-            t,
-            slots,
-            data_words,
-        )
-    }
+            #[inline(always)]
+            fn exit(&mut self, t: u64) -> Answer {
+                run!($module::exit, &mut self.state, &self.lent, t)
+            }
 
-    #[inline(always)]
-    fn store(&mut self, t: u64, object: u64, slot: u64, target: u64) -> Answer {
-        let Lent {
-            permanent,
-            scratch,
-            map,
-        } = &mut self.lent;
-        let store = match RULE {
-            DISPLAY => plain::store,
-            WALK => plain::store_by_walk,
-            _ => plain::store_by_scan,
-        };
-        store(
-            &self.state,
-            permanent,
-            scratch,
-            map,
-            t,
-            object,
-            slot,
-            target,
-        )
-    }
+            #[inline(always)]
+            fn allocate(&mut self, t: u64, slots: u64, data_words: u64) -> Answer {
+                run!(
+                    $module::allocate,
+                    &mut self.state,
+                    &mut self.lent,
+                    t,
+                    slots,
+                    data_words
+                )
+            }
 
-    #[inline(always)]
-    fn load(&mut self, t: u64, object: u64, slot: u64) -> Answer {
-        let Plain { state, lent } = self;
-        plain::load(
-            state,
-            &lent.permanent,
-            &lent.scratch,
-            &lent.map,
-            t,
-            object,
-            slot,
-        )
-    }
+            #[inline(always)]
+            fn store(&mut self, t: u64, object: u64, slot: u64, target: u64) -> Answer {
+                run!(
+                    $module::$store,
+                    &self.state,
+                    &mut self.lent,
+                    t,
+                    object,
+                    slot,
+                    target
+                )
+            }
 
-    #[inline(always)]
-    fn write(&mut self, t: u64, object: u64, index: u64, word: u64) -> Answer {
-        let Lent {
-            permanent,
-            scratch,
-            map,
-        } = &mut self.lent;
-        plain::write(&self.state, permanent, scratch, map, t, object, index, word)
-    }
+            #[inline(always)]
+            fn load(&mut self, t: u64, object: u64, slot: u64) -> Answer {
+                run!($module::load, &self.state, &self.lent, t, object, slot)
+            }
 
-    #[inline(always)]
-    fn read(&mut self, t: u64, object: u64, index: u64) -> Answer {
-        let Plain { state, lent } = self;
-        plain::read(
-            state,
-            &lent.permanent,
-            &lent.scratch,
-            &lent.map,
-            t,
-            object,
-            index,
-        )
-    }
+            #[inline(always)]
+            fn write(&mut self, t: u64, object: u64, index: u64, word: u64) -> Answer {
+                run!(
+                    $module::write,
+                    &self.state,
+                    &mut self.lent,
+                    t,
+                    object,
+                    index,
+                    word
+                )
+            }
+
+            #[inline(always)]
+            fn read(&mut self, t: u64, object: u64, index: u64) -> Answer {
+                run!($module::read, &self.state, &self.lent, t, object, index)
+            }
+        }
+    };
 }
+
+plain_side!(Plain, plain, store);
+plain_side!(Walk, plain, store_by_walk);
+plain_side!(Scan, plain, store_by_scan);
+plain_side!(InLine, in_line, store);

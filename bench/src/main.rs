@@ -10,7 +10,7 @@ mod plot;
 mod report;
 mod scenes;
 
-use machine::{Core, Machine, Plain, SCAN, WALK};
+use machine::{Core, InLine, Machine, Plain, Scan, Walk};
 use measure::Loop;
 use scenes::{Nest, Room};
 
@@ -62,14 +62,21 @@ fn row_loop<M: Machine + 'static>(row: usize) -> Loop {
 
 fn measure_rows() -> Vec<report::Figure> {
     let places = 0..ROWS.len();
-    let loops = places.flat_map(|place| [row_loop::<Core>(place), row_loop::<Plain>(place)]);
+    let loops = places.flat_map(|place| {
+        [
+            row_loop::<Core>(place),
+            row_loop::<Plain>(place),
+            row_loop::<InLine>(place),
+        ]
+    });
     let best = measure::best(&mut loops.collect::<Vec<Loop>>());
-    let pairs = ROWS.iter().zip(best.chunks(2));
+    let pairs = ROWS.iter().zip(best.chunks(3));
     let figures = pairs.map(|(row, best)| report::Figure {
         name: row.name,
         limit: row.limit,
         core: best[0],
         plain: best[1],
+        in_line: best[2],
     });
     figures.collect()
 }
@@ -80,8 +87,8 @@ fn measure_checks() -> Vec<report::Check> {
         [
             store_loop::<Core>(distance),
             store_loop::<Plain>(distance),
-            store_loop::<Plain<WALK>>(distance),
-            store_loop::<Plain<SCAN>>(distance),
+            store_loop::<Walk>(distance),
+            store_loop::<Scan>(distance),
         ]
     });
     let best = measure::best(&mut loops.collect::<Vec<Loop>>());
@@ -110,6 +117,7 @@ fn count(words: &[String]) -> Option<()> {
     let mut run = match side.as_str() {
         "core" => row_loop::<Core>(place),
         "plain" => row_loop::<Plain>(place),
+        "in_line" => row_loop::<InLine>(place),
         _ => return None,
     };
     run(calls.parse().ok()?);
@@ -131,7 +139,7 @@ fn main() {
         _ => None,
     };
     if done.is_none() {
-        eprintln!("usage: bench PLOT.svg, bench rows, or bench count ROW core|plain CALLS");
+        eprintln!("usage: bench PLOT.svg, bench rows, or bench count ROW core|plain|in_line CALLS");
         std::process::exit(2);
     }
 }

@@ -1,6 +1,8 @@
 //! The core in plain safe Rust: a state of records in place, lent as `&mut State`, with the same checks in
 //! the same order. The innermost scope stands beside each stack entry, so that every call takes
 //! constant time here too.
+//!
+//! It is compiled twice: as the compiler thinks best, and with the helpers forced in line.
 
 const LAST_GENERATION: u64 = (1 << 44) - 1;
 
@@ -128,6 +130,7 @@ impl State {
     }
 
     /// Refusals 1 and 2.
+    #[cfg_attr(feature = "in_line", inline(always))]
     fn caller(
         &self,
         permanent: &[u64],
@@ -148,7 +151,7 @@ impl State {
         area < 2 || self.areas[area].size > 0
     }
 
-    #[inline]
+    #[cfg_attr(feature = "in_line", inline(always))]
     fn look_up(
         &self,
         permanent: &[u64],
@@ -179,7 +182,7 @@ impl State {
     }
 
     /// Refusals 1, 2, 13 and 5. Yields the thread's kind beside the object.
-    #[inline]
+    #[cfg_attr(feature = "in_line", inline(always))]
     fn usable(
         &self,
         permanent: &[u64],
@@ -197,7 +200,7 @@ impl State {
     }
 
     /// Refusals 15 and 5; yields the area of a target that is not null.
-    #[inline]
+    #[cfg_attr(feature = "in_line", inline(always))]
     fn target(
         &self,
         permanent: &[u64],
@@ -270,7 +273,7 @@ pub fn enter(st: &mut State, p: &[u64], s: &[u64], m: &[u64], t: u64, area: u64)
     answer(try_enter(st, p, s, m, t, area))
 }
 
-#[inline]
+#[cfg_attr(feature = "in_line", inline(always))]
 fn try_enter(
     st: &mut State,
     p: &[u64],
@@ -306,7 +309,7 @@ fn try_enter(
     Ok(st.areas[area].generation)
 }
 
-#[inline]
+#[cfg_attr(feature = "in_line", inline(always))]
 fn enter_scope(st: &mut State, area: usize, innermost: u8) -> Result<(), u64> {
     if st.areas[area].count > 0 {
         if st.areas[area].parent != innermost {
@@ -398,7 +401,7 @@ pub fn allocate(
 }
 
 /// Clears the n bits from bit w on, a word of the map at a time.
-#[inline]
+#[cfg_attr(feature = "in_line", inline(always))]
 fn clear_bits(map: &mut [u64], w: usize, n: usize) {
     let end = w + n;
     let mut at = w;
@@ -414,7 +417,7 @@ fn clear_bits(map: &mut [u64], w: usize, n: usize) {
 // ---- ops 07 to 0a
 
 /// The assignment rule by one look into a display (source 004, Algorithm 9).
-#[inline]
+#[cfg_attr(feature = "in_line", inline(always))]
 fn by_display(st: &State, _: u64, holder: usize, target: usize) -> bool {
     if target < 2 {
         return true;
@@ -426,7 +429,7 @@ fn by_display(st: &State, _: u64, holder: usize, target: usize) -> bool {
 }
 
 /// By a walk of the parents (Algorithm 5).
-#[inline]
+#[cfg_attr(feature = "in_line", inline(always))]
 fn by_walk(st: &State, _: u64, holder: usize, target: usize) -> bool {
     if target < 2 {
         return true;
@@ -442,7 +445,7 @@ fn by_walk(st: &State, _: u64, holder: usize, target: usize) -> bool {
 }
 
 /// By two scans of the thread's stack (Algorithms 3 and 4): right where both areas stand on it.
-#[inline]
+#[cfg_attr(feature = "in_line", inline(always))]
 fn by_scan(st: &State, t: u64, holder: usize, target: usize) -> bool {
     if target < 2 || holder == target {
         return true;
@@ -459,7 +462,7 @@ fn by_scan(st: &State, t: u64, holder: usize, target: usize) -> bool {
 }
 
 /// How far below the top an area stands (Algorithm 4).
-#[inline]
+#[cfg_attr(feature = "in_line", inline(always))]
 fn distance(stack: &[u8], area: usize) -> Option<usize> {
     stack.iter().rev().position(|&entry| entry as usize == area)
 }
@@ -529,7 +532,7 @@ pub fn load(st: &State, p: &[u64], s: &[u64], m: &[u64], t: u64, object: u64, sl
     answer(try_load(st, p, s, m, t, object, slot))
 }
 
-#[inline]
+#[cfg_attr(feature = "in_line", inline(always))]
 fn try_load(
     st: &State,
     p: &[u64],

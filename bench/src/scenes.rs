@@ -2,8 +2,7 @@
 
 use std::hint::black_box;
 
-use crate::machine::{Machine, SCRATCH};
-use plain::Answer;
+use crate::machine::{Answer, Machine, SCRATCH};
 
 /// The thread of all calls; it is real-time, so that it may do everything.
 const T: u64 = 0;
