@@ -1,30 +1,42 @@
 # The two commands of README.md, and what else there is to run.
 
-.PHONY: run test prove compare soak bench format
+.PHONY: run test prove lib compare hosts soak bench instructions format
 
 # Proves and builds the program, runs it on the specification's example and shows each line with its answer.
 run:
 	@scripts/run $(LIST)
 
 # Everything that the gate runs: each crate proved from nothing, each must-fail edit tried, the program
-# compared with the second implementation. Its last line is 'N passed, 0 failed'.
+# compared with the second implementation, the archive tried from C and Rust. Its last line is 'N passed, 0 failed'.
 test:
 	@scripts/test
 
 prove:
 	@rt check
 
+# The core for C and Rust: target/include/scopes.h and target/lib/libscopes.a.
+lib:
+	@scripts/lib
+
 # The program against the second implementation alone, after `make prove`.
 compare:
 	@scripts/compare
 
-# The same on fresh lists for as long as one likes: make soak SECONDS=600
+# The archive alone: the bench in C, the Rust wrapper's tests, the exported functions against the second implementation.
+hosts:
+	@scripts/hosts
+
+# The program's comparison on fresh lists for as long as one likes: make soak SECONDS=600
 soak:
 	@scripts/soak $(SECONDS)
 
-# The program's speed beside the second implementation's, as a ratio, after `make test`.
+# Speed, as ratios: the exported functions beside plain Rust, the program beside the second implementation. Writes docs/BENCHMARKS.md.
 bench:
 	@scripts/bench
+
+# Instructions of each exported call beside plain Rust's, after `make bench`; needs valgrind.
+instructions:
+	@scripts/instructions
 
 format:
 	@rt fmt

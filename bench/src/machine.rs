@@ -1,0 +1,252 @@
+//! The sides that are measured, behind one set of calls: the exported functions, and plain Rust.
+
+use exports::exports as c;
+
+/// Sizes of the lent buffers, the same on both sides.
+pub const PERMANENT: usize = 2_048;
+pub const HEAP: u64 = 1_024;
+pub const SCRATCH: usize = 16_384;
+pub const MAP: usize = (PERMANENT + SCRATCH) / 64;
+
+/// What a call answers, on every side.
+#[derive(Clone, Copy, Debug, PartialEq, Eq)]
+pub struct Answer {
+    pub status: u64,
+    pub value: u64,
+}
+
+pub trait Machine {
+    fn set_up() -> Self;
+    fn start(&mut self, t: u64, kind: u64) -> Answer;
+    fn make(&mut self, t: u64, area: u64, size: u64) -> Answer;
+    fn enter(&mut self, t: u64, area: u64) -> Answer;
+    fn exit(&mut self, t: u64) -> Answer;
+    fn allocate(&mut self, t: u64, slots: u64, data_words: u64) -> Answer;
+    fn store(&mut self, t: u64, object: u64, slot: u64, target: u64) -> Answer;
+    fn load(&mut self, t: u64, object: u64, slot: u64) -> Answer;
+    fn write(&mut self, t: u64, object: u64, index: u64, word: u64) -> Answer;
+    fn read(&mut self, t: u64, object: u64, index: u64) -> Answer;
+}
+
+/// The lent buffers.
+struct Lent {
+    permanent: Vec<u64>,
+    scratch: Vec<u64>,
+    map: Vec<u64>,
+}
+
+impl Lent {
+    fn new() -> Lent {
+        Lent {
+            permanent: vec![0; PERMANENT],
+            scratch: vec![0; SCRATCH],
+            map: vec![0; MAP],
+        }
+    }
+}
+
+// ---- the exported functions
+
+/// The state's tables, where no row of 32 bytes crosses a cache line.
+#[repr(C, align(64))]
+struct Tables {
+    words: [u64; 548],
+    bytes: [u8; 3072],
+}
+
+pub struct Core {
+    state: Box<Tables>,
+    lent: Lent,
+}
+
+/// A call of an exported function with the state, the buffers and numbers.
+macro_rules! call {
+    ($function:ident, $core:ident, $($number:expr),*) => {{
+        let Core { state, lent } = $core;
+        // SAFETY: the state is one of set-up and calls; the buffers are slices with their lengths.
+        let answer = unsafe {
+            c::$function(
+                state.words.as_mut_ptr(),
+                state.bytes.as_mut_ptr(),
+                lent.permanent.as_mut_ptr(),
+                lent.permanent.len(),
+                lent.scratch.as_mut_ptr(),
+                lent.scratch.len(),
+                lent.map.as_mut_ptr(),
+                lent.map.len(),
+                $($number),*
+            )
+        };
+        Answer { status: answer.status, value: answer.value }
+    }};
+}
+
+impl Machine for Core {
+    fn set_up() -> Core {
+        let lent = Lent::new();
+        // SAFETY: three slices with their lengths.
+        let state = unsafe {
+            c::scopes_set_up(
+                lent.permanent.as_ptr(),
+                PERMANENT,
+                lent.scratch.as_ptr(),
+                SCRATCH,
+                lent.map.as_ptr(),
+                MAP,
+                HEAP,
+                PERMANENT as u64 - HEAP,
+            )
+        };
+        assert_eq!(state.status, 0);
+        let c::NewState { words, bytes, .. } = state;
+        let state = Box::new(Tables { words, bytes });
+        Core { state, lent }
+    }
+
+    #[inline(always)]
+    fn start(&mut self, t: u64, kind: u64) -> Answer {
+        call!(scopes_start, self, t, kind)
+    }
+
+    #[inline(always)]
+    fn make(&mut self, t: u64, area: u64, size: u64) -> Answer {
+        call!(scopes_make, self, t, area, size)
+    }
+
+    #[inline(always)]
+    fn enter(&mut self, t: u64, area: u64) -> Answer {
+        call!(scopes_enter, self, t, area)
+    }
+
+    #[inline(always)]
+    fn exit(&mut self, t: u64) -> Answer {
+        call!(scopes_exit, self, t)
+    }
+
+    #[inline(always)]
+    fn allocate(&mut self, t: u64, slots: u64, data_words: u64) -> Answer {
+        call!(scopes_allocate, self, t, slots, data_words)
+    }
+
+    #[inline(always)]
+    fn store(&mut self, t: u64, object: u64, slot: u64, target: u64) -> Answer {
+        call!(scopes_store, self, t, object, slot, target)
+    }
+
+    #[inline(always)]
+    fn load(&mut self, t: u64, object: u64, slot: u64) -> Answer {
+        call!(scopes_load, self, t, object, slot)
+    }
+
+    #[inline(always)]
+    fn write(&mut self, t: u64, object: u64, index: u64, word: u64) -> Answer {
+        call!(scopes_write, self, t, object, index, word)
+    }
+
+    #[inline(always)]
+    fn read(&mut self, t: u64, object: u64, index: u64) -> Answer {
+        call!(scopes_read, self, t, object, index)
+    }
+}
+
+// ---- plain Rust
+
+/// A call of a plain function with the state, the buffers and numbers.
+macro_rules! run {
+    ($function:path, $state:expr, $lent:expr, $($number:expr),*) => {{
+        let Lent { permanent, scratch, map } = $lent;
+        let answer = $function($state, permanent, scratch, map, $($number),*);
+        Answer { status: answer.status, value: answer.value }
+    }};
+}
+/// A side over one compilation of plain Rust, with one of its stores.
+macro_rules! plain_side {
+    ($side:ident, $module:ident, $store:ident) => {
+        pub struct $side {
+            state: Box<$module::State>,
+            lent: Lent,
+        }
+
+        impl Machine for $side {
+            fn set_up() -> $side {
+                $side {
+                    state: Box::new($module::State::set_up(PERMANENT, SCRATCH, MAP, HEAP)),
+                    lent: Lent::new(),
+                }
+            }
+
+            #[inline(always)]
+            fn start(&mut self, t: u64, kind: u64) -> Answer {
+                run!($module::start, &mut self.state, &self.lent, t, kind)
+            }
+
+            #[inline(always)]
+            fn make(&mut self, t: u64, area: u64, size: u64) -> Answer {
+                run!($module::make, &mut self.state, &self.lent, t, area, size)
+            }
+
+            #[inline(always)]
+            fn enter(&mut self, t: u64, area: u64) -> Answer {
+                run!($module::enter, &mut self.state, &self.lent, t, area)
+            }
+
+            #[inline(always)]
+            fn exit(&mut self, t: u64) -> Answer {
+                run!($module::exit, &mut self.state, &self.lent, t)
+            }
+
+            #[inline(always)]
+            fn allocate(&mut self, t: u64, slots: u64, data_words: u64) -> Answer {
+                run!(
+                    $module::allocate,
+                    &mut self.state,
+                    &mut self.lent,
+                    t,
+                    slots,
+                    data_words
+                )
+            }
+
+            #[inline(always)]
+            fn store(&mut self, t: u64, object: u64, slot: u64, target: u64) -> Answer {
+                run!(
+                    $module::$store,
+                    &self.state,
+                    &mut self.lent,
+                    t,
+                    object,
+                    slot,
+                    target
+                )
+            }
+
+            #[inline(always)]
+            fn load(&mut self, t: u64, object: u64, slot: u64) -> Answer {
+                run!($module::load, &self.state, &self.lent, t, object, slot)
+            }
+
+            #[inline(always)]
+            fn write(&mut self, t: u64, object: u64, index: u64, word: u64) -> Answer {
+                run!(
+                    $module::write,
+                    &self.state,
+                    &mut self.lent,
+                    t,
+                    object,
+                    index,
+                    word
+                )
+            }
+
+            #[inline(always)]
+            fn read(&mut self, t: u64, object: u64, index: u64) -> Answer {
+                run!($module::read, &self.state, &self.lent, t, object, index)
+            }
+        }
+    };
+}
+
+plain_side!(Plain, plain, store);
+plain_side!(Walk, plain, store_by_walk);
+plain_side!(Scan, plain, store_by_scan);
+plain_side!(InLine, in_line, store);

@@ -1,0 +1,141 @@
+//! What is measured: scenes that are set once, and loops of calls in them.
+
+use std::hint::black_box;
+
+use crate::machine::{Answer, Machine, SCRATCH};
+
+/// The thread of all calls; it is real-time, so that it may do everything.
+const T: u64 = 0;
+const REAL_TIME: u64 = 2;
+const FIRST_SCOPE: u64 = 2;
+/// Objects in each scope, used by turns.
+const OBJECTS: usize = 8;
+/// Allocations between two emptyings of the scope.
+pub const BATCH: u64 = 200;
+
+/// The value of a call that must be accepted.
+fn ok(answer: Answer) -> u64 {
+    assert_eq!(answer.status, 0);
+    answer.value
+}
+
+/// The thread in scopes 2, 3, .., one in the other, with objects in each: 2 slots, 2 data words.
+pub struct Nest<M> {
+    machine: M,
+    depth: u64,
+    objects: Vec<[u64; OBJECTS]>,
+}
+
+impl<M: Machine> Nest<M> {
+    pub fn new(depth: u64) -> Nest<M> {
+        let mut machine = M::set_up();
+        ok(machine.start(T, REAL_TIME));
+        let mut objects = Vec::new();
+        for scope in FIRST_SCOPE..FIRST_SCOPE + depth {
+            ok(machine.make(T, scope, 256));
+            ok(machine.enter(T, scope));
+            objects.push([(); OBJECTS].map(|()| ok(machine.allocate(T, 2, 2))));
+        }
+        // One scope more, for entries, and the next one to be its child.
+        ok(machine.make(T, FIRST_SCOPE + depth, 256));
+        Nest {
+            machine,
+            depth,
+            objects,
+        }
+    }
+
+    fn innermost(&self) -> [u64; OBJECTS] {
+        self.objects[self.depth as usize - 1]
+    }
+
+    /// The objects of the scope that stands so many above the innermost one.
+    fn ancestor(&self, distance: u64) -> [u64; OBJECTS] {
+        self.objects[(self.depth - 1 - distance) as usize]
+    }
+
+    /// Stores from the innermost scope to an ancestor.
+    pub fn store(&mut self, calls: u64, distance: u64) {
+        let (holders, targets) = (self.innermost(), self.ancestor(distance));
+        for i in 0..calls as usize {
+            let (holder, target) = (holders[i % OBJECTS], targets[i / OBJECTS % OBJECTS]);
+            let answer = self
+                .machine
+                .store(T, black_box(holder), 1, black_box(target));
+            black_box(answer);
+        }
+        assert_eq!(self.machine.store(T, holders[0], 1, targets[0]).status, 0);
+    }
+
+    /// Loads what a store left.
+    pub fn load(&mut self, calls: u64, distance: u64) {
+        self.store(OBJECTS as u64, distance);
+        let holders = self.innermost();
+        for i in 0..calls as usize {
+            black_box(self.machine.load(T, black_box(holders[i % OBJECTS]), 1));
+        }
+        assert_ne!(ok(self.machine.load(T, holders[0], 1)), 0);
+    }
+
+    pub fn write(&mut self, calls: u64) {
+        let holders = self.innermost();
+        for i in 0..calls as usize {
+            let holder = holders[i % OBJECTS];
+            let answer = self
+                .machine
+                .write(T, black_box(holder), 1, black_box(i as u64));
+            black_box(answer);
+        }
+        ok(self.machine.write(T, holders[0], 1, 7));
+    }
+
+    pub fn read(&mut self, calls: u64) {
+        let holders = self.innermost();
+        for i in 0..calls as usize {
+            black_box(self.machine.read(T, black_box(holders[i % OBJECTS]), 1));
+        }
+        ok(self.machine.read(T, holders[0], 1));
+    }
+
+    /// Opens the next scope and leaves it, which empties it.
+    pub fn enter_and_exit(&mut self, calls: u64) {
+        let scope = FIRST_SCOPE + self.depth;
+        for _ in 0..calls {
+            black_box(self.machine.enter(T, black_box(scope)));
+            black_box(self.machine.exit(T));
+        }
+        ok(self.machine.enter(T, scope));
+        ok(self.machine.exit(T));
+    }
+}
+
+/// The thread in one scope under a parent, which takes all that it allocates.
+pub struct Room<M> {
+    machine: M,
+}
+
+impl<M: Machine> Room<M> {
+    const SCOPE: u64 = FIRST_SCOPE + 1;
+
+    pub fn new() -> Room<M> {
+        let mut machine = M::set_up();
+        ok(machine.start(T, REAL_TIME));
+        ok(machine.make(T, FIRST_SCOPE, 64));
+        ok(machine.make(T, Self::SCOPE, SCRATCH as u64 - 64));
+        ok(machine.enter(T, FIRST_SCOPE));
+        Room { machine }
+    }
+
+    /// Allocations in batches; before each the scope is entered and after it left, so that it is
+    /// empty again. The pair's time counts: it is a part in BATCH of a pair for each allocation.
+    pub fn allocate(&mut self, calls: u64, data_words: u64) {
+        for _ in 0..calls / BATCH {
+            black_box(self.machine.enter(T, Self::SCOPE));
+            for _ in 0..BATCH {
+                black_box(self.machine.allocate(T, 0, black_box(data_words)));
+            }
+            ok(self.machine.allocate(T, 0, 0));
+            black_box(self.machine.exit(T));
+        }
+    }
+}

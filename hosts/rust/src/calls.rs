@@ -1,0 +1,198 @@
+//! The core: a state with the memory that is lent to its calls.
+
+use crate::names::{slot_word, Area, Handle, Kind, Thread};
+use crate::refusal::{check, value, Refusal};
+use crate::sys::{self, Memory, State};
+
+/// How many words the start map of stores of these lengths has.
+pub const fn map_words(permanent: usize, scratch: usize) -> usize {
+    (permanent + scratch).div_ceil(64)
+}
+
+/// A state and its three buffers, borrowed for as long as it lives. It cannot be copied; calls that
+/// only look take `&self`.
+pub struct Core<'m> {
+    state: State,
+    memory: Memory<'m>,
+}
+
+impl<'m> Core<'m> {
+    /// A first state over a permanent store (heap, then immortal memory, of these sizes in words), a
+    /// scratch store and a start map. Their words may hold anything; none is written. Refused by
+    /// [`Refusal::Lengths`] unless heap + immortal is the permanent store's length, no store is
+    /// longer than 16,384 words, and the map has [`map_words`] words.
+    pub fn set_up(
+        permanent: &'m mut [u64],
+        scratch: &'m mut [u64],
+        map: &'m mut [u64],
+        heap: u64,
+        immortal: u64,
+    ) -> Result<Core<'m>, Refusal> {
+        let memory = Memory {
+            permanent,
+            scratch,
+            map,
+        };
+        let (status, state) = sys::set_up(&memory, heap, immortal);
+        check(status)?;
+        Ok(Core { state, memory })
+    }
+
+    /// Starts a thread. Refusals 2, 3.
+    pub fn start(&mut self, thread: Thread, kind: Kind) -> Result<(), Refusal> {
+        let answer = sys::start(&mut self.state, &self.memory, thread.number(), kind as u64);
+        value(answer).map(|_| ())
+    }
+
+    /// Ends a thread. Refusals 2, 11.
+    pub fn end(&mut self, thread: Thread) -> Result<(), Refusal> {
+        value(sys::end(&mut self.state, &self.memory, thread.number())).map(|_| ())
+    }
+
+    /// Makes a scope of a size in words, from the next unused scratch words. Refusals 2, 6, 7, 8.
+    pub fn make(&mut self, thread: Thread, scope: Area, size: u64) -> Result<(), Refusal> {
+        let answer = sys::make(
+            &mut self.state,
+            &self.memory,
+            thread.number(),
+            scope.number(),
+            size,
+        );
+        value(answer).map(|_| ())
+    }
+
+    /// Enters an area; its generation. Refusals 2, 6, 5, 9, 10, 17.
+    pub fn enter(&mut self, thread: Thread, area: Area) -> Result<u64, Refusal> {
+        let answer = sys::enter(
+            &mut self.state,
+            &self.memory,
+            thread.number(),
+            area.number(),
+        );
+        value(answer)
+    }
+
+    /// Leaves the current area; the count of entries left of a scope, else 0. Refusals 2, 11.
+    pub fn exit(&mut self, thread: Thread) -> Result<u64, Refusal> {
+        value(sys::exit(&mut self.state, &self.memory, thread.number()))
+    }
+
+    /// Allocates an object in the current area, slots null and data words 0. Refusals 2, 5, 12.
+    pub fn allocate(
+        &mut self,
+        thread: Thread,
+        slots: u64,
+        data_words: u64,
+    ) -> Result<Handle, Refusal> {
+        let answer = sys::allocate(
+            &mut self.state,
+            &mut self.memory,
+            thread.number(),
+            slots,
+            data_words,
+        );
+        let word = value(answer)?;
+        Ok(Handle::from_word(word).expect("an object's generation is at least 1"))
+    }
+
+    /// Stores a reference, or null, in a slot. Refusals 2, 13, 5, 14, 15, 5, 16.
+    pub fn store(
+        &mut self,
+        thread: Thread,
+        object: Handle,
+        slot: u64,
+        target: Option<Handle>,
+    ) -> Result<(), Refusal> {
+        let answer = sys::store(
+            &self.state,
+            &mut self.memory,
+            thread.number(),
+            object.word(),
+            slot,
+            slot_word(target),
+        );
+        value(answer).map(|_| ())
+    }
+
+    /// Loads a reference, or null. Refusals 2, 13, 5, 14, 5.
+    pub fn load(
+        &self,
+        thread: Thread,
+        object: Handle,
+        slot: u64,
+    ) -> Result<Option<Handle>, Refusal> {
+        let answer = sys::load(
+            &self.state,
+            &self.memory,
+            thread.number(),
+            object.word(),
+            slot,
+        );
+        value(answer).map(Handle::from_word)
+    }
+
+    /// Writes a data word. Refusals 2, 13, 5, 14.
+    pub fn write(
+        &mut self,
+        thread: Thread,
+        object: Handle,
+        index: u64,
+        word: u64,
+    ) -> Result<(), Refusal> {
+        let answer = sys::write(
+            &self.state,
+            &mut self.memory,
+            thread.number(),
+            object.word(),
+            index,
+            word,
+        );
+        value(answer).map(|_| ())
+    }
+
+    /// Reads a data word. Refusals 2, 13, 5, 14.
+    pub fn read(&self, thread: Thread, object: Handle, index: u64) -> Result<u64, Refusal> {
+        let answer = sys::read(
+            &self.state,
+            &self.memory,
+            thread.number(),
+            object.word(),
+            index,
+        );
+        value(answer)
+    }
+
+    /// An object's data words where they lie. No call that changes anything can be made while they
+    /// are held. Refusals 2, 13, 5.
+    pub fn view(&self, thread: Thread, object: Handle) -> Result<&[u64], Refusal> {
+        let part = sys::view_place(&self.state, &self.memory, thread.number(), object.word());
+        check(part.status)?;
+        let store = if part.store == 0 {
+            &self.memory.permanent
+        } else {
+            &self.memory.scratch
+        };
+        Ok(&store[part.from as usize..][..part.len as usize])
+    }
+
+    /// Whether [`Core::view`] would be refused.
+    pub fn view_status(&self, thread: Thread, object: Handle) -> Result<(), Refusal> {
+        let answer = sys::view_status(&self.state, &self.memory, thread.number(), object.word());
+        value(answer).map(|_| ())
+    }
+
+    /// The words of the permanent store, to look at.
+    pub fn permanent(&self) -> &[u64] {
+        self.memory.permanent
+    }
+
+    /// The words of the scratch store, to look at.
+    pub fn scratch(&self) -> &[u64] {
+        self.memory.scratch
+    }
+
+    /// The words of the start map, to look at.
+    pub fn map(&self) -> &[u64] {
+        self.memory.map
+    }
+}

@@ -1,0 +1,63 @@
+//! The scoped-memory core from safe Rust.
+//!
+//! The functions below this crate are proved: `include/scopes.h` says what of them, and what their
+//! caller owes. This crate keeps what the caller owes by its types. A [`Core`] is made by
+//! [`Core::set_up`] alone and is never copied, so its state is one that set-up and calls left; it
+//! borrows the three buffers for as long as it lives, so nothing else writes them between calls.
+//!
+//! ```
+//! use scopes::{map_words, Area, Core, Kind, Thread};
+//!
+//! let (mut permanent, mut scratch) = ([0; 64], [0; 64]);
+//! let mut map = [0; map_words(64, 64)];
+//! let mut core = Core::set_up(&mut permanent, &mut scratch, &mut map, 32, 32)?;
+//!
+//! let (meter, sample) = (Thread::new(0), Area::new(2));
+//! core.start(meter, Kind::RealTime)?;
+//! core.make(meter, sample, 16)?;
+//! core.enter(meter, sample)?;
+//! let points = core.allocate(meter, 0, 3)?;
+//! core.write(meter, points, 0, 41)?;
+//! assert_eq!(core.view(meter, points)?, [41, 0, 0]);
+//! core.exit(meter)?;
+//! assert!(core.view(meter, points).is_err());
+//! # Ok::<(), scopes::Refusal>(())
+//! ```
+//!
+//! A core has no copies, and its buffers no other writer; a view ends before the next change:
+//!
+//! ```compile_fail,E0599
+//! fn copied<'m>(core: &scopes::Core<'m>) -> scopes::Core<'m> {
+//!     core.clone()
+//! }
+//! ```
+//!
+//! ```compile_fail,E0506
+//! let (mut permanent, mut scratch, mut map) = ([0; 1], [0; 1], [0; 1]);
+//! let core = scopes::Core::set_up(&mut permanent, &mut scratch, &mut map, 1, 0);
+//! permanent[0] = 1;
+//! core.unwrap();
+//! ```
+//!
+//! ```compile_fail,E0502
+//! fn held(core: &mut scopes::Core, thread: scopes::Thread, object: scopes::Handle) -> u64 {
+//!     let view = core.view(thread, object).unwrap();
+//!     core.exit(thread).unwrap();
+//!     view[0]
+//! }
+//! ```
+
+#![deny(unsafe_code)]
+#![warn(missing_docs)]
+
+mod calls;
+mod names;
+mod refusal;
+mod stack;
+#[allow(unsafe_code)]
+mod sys;
+
+pub use calls::{map_words, Core};
+pub use names::{Area, Handle, Kind, Thread};
+pub use refusal::Refusal;
+pub use stack::ScopeStack;

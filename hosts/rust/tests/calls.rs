@@ -1,0 +1,139 @@
+//! Each op accepted, with its value, and the borrowed view.
+
+mod common;
+
+use common::{area, handle, thread, Buffers, PERMANENT, SCRATCH};
+use scopes::{map_words, Area, Core, Kind, ScopeStack};
+
+#[test]
+fn set_up_writes_no_word() {
+    let mut buffers = Buffers::new();
+    let core = buffers.set_up();
+    assert_eq!(core.permanent(), vec![u64::MAX; PERMANENT]);
+    assert_eq!(core.scratch(), vec![u64::MAX; SCRATCH]);
+    assert_eq!(core.map(), vec![u64::MAX; map_words(PERMANENT, SCRATCH)]);
+}
+
+#[test]
+fn threads_start_and_end() {
+    let mut buffers = Buffers::new();
+    let mut core = buffers.set_up();
+    for number in 0..16 {
+        assert_eq!(core.start(thread(number), Kind::NoHeap), Ok(()));
+        assert_eq!(core.end(thread(number)), Ok(()));
+        assert_eq!(core.start(thread(number), Kind::Ordinary), Ok(()));
+    }
+}
+
+#[test]
+fn scopes_open_and_empty() {
+    let mut buffers = Buffers::new();
+    let mut core = buffers.begin();
+    assert_eq!(core.enter(thread(0), area(2)), Ok(1));
+    assert_eq!(core.enter(thread(2), area(2)), Ok(1));
+    assert_eq!(core.enter(thread(0), Area::HEAP), Ok(1));
+    assert_eq!(core.exit(thread(0)), Ok(0));
+    assert_eq!(core.exit(thread(0)), Ok(1));
+    assert_eq!(core.exit(thread(2)), Ok(0));
+    assert_eq!(core.enter(thread(0), area(2)), Ok(2));
+}
+
+#[test]
+fn objects_lie_in_the_current_area() {
+    let mut buffers = Buffers::new();
+    let mut core = buffers.begin();
+    let object = core.allocate(thread(0), 1, 2).unwrap();
+    assert_eq!(object, handle(1 << 20));
+    assert_eq!(object.area(), Area::HEAP);
+    assert_eq!(core.permanent()[..4], [2 << 14 | 1, 0, 0, 0]);
+    core.enter(thread(0), area(3)).unwrap();
+    let object = core.allocate(thread(0), 0, 1).unwrap();
+    assert_eq!(object.word(), 1 << 20 | 3 << 14);
+    assert_eq!(core.scratch()[8..10], [1 << 14, 0]);
+}
+
+#[test]
+fn references_and_data() {
+    let mut buffers = Buffers::new();
+    let mut core = buffers.begin();
+    let outer = core.allocate(thread(0), 0, 1).unwrap();
+    core.enter(thread(0), area(2)).unwrap();
+    let inner = core.allocate(thread(0), 1, 1).unwrap();
+    assert_eq!(core.load(thread(0), inner, 0), Ok(None));
+    assert_eq!(core.store(thread(0), inner, 0, Some(outer)), Ok(()));
+    assert_eq!(core.load(thread(0), inner, 0), Ok(Some(outer)));
+    assert_eq!(core.store(thread(0), inner, 0, None), Ok(()));
+    assert_eq!(core.load(thread(0), inner, 0), Ok(None));
+    assert_eq!(core.write(thread(0), inner, 0, 7), Ok(()));
+    assert_eq!(core.read(thread(0), inner, 0), Ok(7));
+}
+
+/// A view is a part of the store itself.
+#[test]
+fn views_are_parts_of_the_stores() {
+    let mut buffers = Buffers::new();
+    let mut core = buffers.begin();
+    let kept = core.allocate(thread(0), 1, 2).unwrap();
+    core.enter(thread(0), area(2)).unwrap();
+    let sample = core.allocate(thread(0), 2, 3).unwrap();
+    let bare = core.allocate(thread(0), 0, 0).unwrap();
+    core.write(thread(0), kept, 1, 5).unwrap();
+    core.write(thread(0), sample, 2, 9).unwrap();
+    let view = core.view(thread(0), sample).unwrap();
+    assert_eq!(view, [0, 0, 9]);
+    assert!(std::ptr::eq(view, &core.scratch()[3..6]));
+    let view = core.view(thread(0), kept).unwrap();
+    assert!(std::ptr::eq(view, &core.permanent()[2..4]));
+    assert_eq!(view, [0, 5]);
+    assert_eq!(core.view(thread(0), bare), Ok(&[][..]));
+    assert_eq!(core.view_status(thread(0), bare), Ok(()));
+}
+
+/// Calls that only look can be made while a view is held.
+#[test]
+fn views_last_beside_other_looks() {
+    let mut buffers = Buffers::new();
+    let mut core = buffers.begin();
+    let object = core.allocate(thread(0), 1, 1).unwrap();
+    core.write(thread(0), object, 0, 3).unwrap();
+    let view = core.view(thread(0), object).unwrap();
+    assert_eq!(core.read(thread(0), object, 0), Ok(view[0]));
+    assert_eq!(core.load(thread(0), object, 0), Ok(None));
+    assert_eq!(view, [3]);
+}
+
+/// The buffers are the host's again when the core is gone.
+#[test]
+fn buffers_come_back() {
+    let (mut permanent, mut scratch, mut map) = ([0; 8], [0; 8], [0; 1]);
+    let mut core = Core::set_up(&mut permanent, &mut scratch, &mut map, 8, 0).unwrap();
+    core.start(thread(0), Kind::Ordinary).unwrap();
+    let object = core.allocate(thread(0), 0, 1).unwrap();
+    core.write(thread(0), object, 0, 77).unwrap();
+    drop(core);
+    assert_eq!(permanent[..2], [1 << 14, 77]);
+    assert_eq!(map, [1]);
+}
+
+#[test]
+fn a_core_moves_to_another_thread() {
+    let mut buffers = Buffers::new();
+    let mut core = buffers.begin();
+    let generation = std::thread::scope(|scope| {
+        let worker = scope.spawn(move || core.enter(thread(0), area(2)));
+        worker.join().unwrap()
+    });
+    assert_eq!(generation, Ok(1));
+}
+
+#[test]
+fn stack_of_the_scheduler() {
+    let mut stack = ScopeStack::empty();
+    for number in [5, 0, 63] {
+        assert_eq!(stack.push(area(number)), Ok(()));
+    }
+    let entries: Vec<Area> = stack.entries().collect();
+    assert_eq!(entries, [area(5), Area::HEAP, area(63)]);
+    assert_eq!(stack.pop(), Ok(area(63)));
+    assert_eq!(stack.pop(), Ok(Area::HEAP));
+}

@@ -1,0 +1,241 @@
+//! Each refusal that a host can meet, by its number. 4 has no `Kind`, 17 takes 2^44 - 1 entries, and
+//! after an accepted set-up 1 cannot come, since the core keeps its buffers.
+
+mod common;
+
+use common::{area, handle, thread, Buffers};
+use scopes::{Area, Core, Kind, Refusal, ScopeStack};
+
+fn set_up(permanent: usize, scratch: usize, map: usize, heap: u64, immortal: u64) -> Option<u64> {
+    let mut permanent = vec![0; permanent];
+    let mut scratch = vec![0; scratch];
+    let mut map = vec![0; map];
+    let core = Core::set_up(&mut permanent, &mut scratch, &mut map, heap, immortal);
+    core.err().map(Refusal::number)
+}
+
+#[test]
+fn refused_by_1_set_up() {
+    assert_eq!(set_up(32, 32, 1, 20, 12), None);
+    assert_eq!(set_up(0, 0, 0, 0, 0), None);
+    assert_eq!(set_up(16_384, 16_384, 512, 16_384, 0), None);
+    assert_eq!(set_up(32, 32, 1, 20, 11), Some(1));
+    assert_eq!(set_up(2, 0, 1, u64::MAX, 3), Some(1));
+    assert_eq!(set_up(16_385, 0, 257, 16_385, 0), Some(1));
+    assert_eq!(set_up(0, 16_385, 257, 0, 0), Some(1));
+    assert_eq!(set_up(32, 32, 0, 20, 12), Some(1));
+    assert_eq!(set_up(32, 32, 2, 20, 12), Some(1));
+    assert_eq!(set_up(32, 33, 1, 20, 12), Some(1));
+}
+
+#[test]
+fn refused_by_2_thread() {
+    let mut buffers = Buffers::new();
+    let mut core = buffers.begin();
+    for number in [3, 15, 16, u64::MAX] {
+        assert_eq!(core.exit(thread(number)), Err(Refusal::Thread));
+        let shown = core.view(thread(number), handle(1));
+        assert_eq!(shown, Err(Refusal::Thread));
+    }
+    let started = core.start(thread(16), Kind::RealTime);
+    assert_eq!(started, Err(Refusal::Thread));
+}
+
+#[test]
+fn refused_by_3_started() {
+    let mut buffers = Buffers::new();
+    let mut core = buffers.begin();
+    let started = core.start(thread(0), Kind::NoHeap);
+    assert_eq!(started, Err(Refusal::Started));
+}
+
+#[test]
+fn refused_by_5_right() {
+    let mut buffers = Buffers::new();
+    let mut core = buffers.begin();
+    let (real_time, ordinary, no_heap) = (thread(0), thread(1), thread(2));
+    assert_eq!(core.enter(no_heap, Area::HEAP), Err(Refusal::Right));
+    assert_eq!(core.enter(ordinary, area(2)), Err(Refusal::Right));
+    assert_eq!(core.allocate(no_heap, 0, 0), Err(Refusal::Right));
+    let in_heap = core.allocate(real_time, 1, 1).unwrap();
+    core.enter(real_time, area(2)).unwrap();
+    let in_scope = core.allocate(real_time, 1, 1).unwrap();
+    assert_eq!(core.read(no_heap, in_heap, 0), Err(Refusal::Right));
+    assert_eq!(core.write(ordinary, in_scope, 0, 1), Err(Refusal::Right));
+    assert_eq!(core.view(ordinary, in_scope), Err(Refusal::Right));
+    assert_eq!(core.view_status(no_heap, in_heap), Err(Refusal::Right));
+    let stored = core.store(no_heap, in_scope, 0, Some(in_heap));
+    assert_eq!(stored, Err(Refusal::Right));
+    core.store(real_time, in_scope, 0, Some(in_heap)).unwrap();
+    assert_eq!(core.load(no_heap, in_scope, 0), Err(Refusal::Right));
+}
+
+#[test]
+fn refused_by_6_area() {
+    let mut buffers = Buffers::new();
+    let mut core = buffers.begin();
+    for number in [4, 63, 64, u64::MAX] {
+        assert_eq!(core.enter(thread(0), area(number)), Err(Refusal::Area));
+    }
+    for number in [0, 1, 64, u64::MAX] {
+        assert_eq!(core.make(thread(0), area(number), 1), Err(Refusal::Area));
+    }
+    assert_eq!(ScopeStack::empty().push(area(64)), Err(Refusal::Area));
+}
+
+#[test]
+fn refused_by_7_made() {
+    let mut buffers = Buffers::new();
+    let mut core = buffers.begin();
+    assert_eq!(core.make(thread(0), area(2), 1), Err(Refusal::Made));
+}
+
+#[test]
+fn refused_by_8_size() {
+    let mut buffers = Buffers::new();
+    let mut core = buffers.begin();
+    for size in [0, 81, u64::MAX] {
+        assert_eq!(core.make(thread(0), area(4), size), Err(Refusal::Size));
+    }
+    assert_eq!(core.make(thread(0), area(4), 80), Ok(()));
+}
+
+#[test]
+fn refused_by_9_stack_full() {
+    let mut buffers = Buffers::new();
+    let mut core = buffers.begin();
+    let mut stack = ScopeStack::empty();
+    for _ in 0..32 {
+        assert_eq!(core.enter(thread(0), Area::IMMORTAL), Ok(1));
+        assert_eq!(stack.push(Area::IMMORTAL), Ok(()));
+    }
+    let entered = core.enter(thread(0), Area::IMMORTAL);
+    assert_eq!(entered, Err(Refusal::StackFull));
+    assert_eq!(stack.push(Area::IMMORTAL), Err(Refusal::StackFull));
+    assert_eq!(stack.entries().count(), 32);
+}
+
+#[test]
+fn refused_by_10_parent() {
+    let mut buffers = Buffers::new();
+    let mut core = buffers.begin();
+    core.enter(thread(0), area(2)).unwrap();
+    assert_eq!(core.enter(thread(0), area(2)), Err(Refusal::Parent));
+    core.enter(thread(0), area(3)).unwrap();
+    assert_eq!(core.enter(thread(2), area(3)), Err(Refusal::Parent));
+}
+
+#[test]
+fn refused_by_11_entries() {
+    let mut buffers = Buffers::new();
+    let mut core = buffers.begin();
+    assert_eq!(core.exit(thread(0)), Err(Refusal::Entries));
+    core.enter(thread(0), area(2)).unwrap();
+    assert_eq!(core.end(thread(0)), Err(Refusal::Entries));
+    assert_eq!(ScopeStack::empty().pop(), Err(Refusal::Entries));
+}
+
+#[test]
+fn refused_by_12_room() {
+    let mut buffers = Buffers::new();
+    let mut core = buffers.begin();
+    core.enter(thread(0), area(2)).unwrap();
+    for (slots, data_words) in [(0, 8), (8, 0), (4, 4), (u64::MAX, u64::MAX)] {
+        let allocated = core.allocate(thread(0), slots, data_words);
+        assert_eq!(allocated, Err(Refusal::Room));
+    }
+    assert!(core.allocate(thread(0), 3, 4).is_ok());
+}
+
+#[test]
+fn refused_by_13_object() {
+    let mut buffers = Buffers::new();
+    let mut core = buffers.begin();
+    core.enter(thread(0), area(2)).unwrap();
+    let gone = core.allocate(thread(0), 1, 1).unwrap();
+    core.exit(thread(0)).unwrap();
+    core.enter(thread(0), area(2)).unwrap();
+    core.allocate(thread(0), 1, 1).unwrap();
+    for object in [gone, handle(1), handle(u64::MAX)] {
+        assert_eq!(core.read(thread(0), object, 0), Err(Refusal::Object));
+        assert_eq!(core.write(thread(0), object, 0, 1), Err(Refusal::Object));
+        assert_eq!(core.load(thread(0), object, 0), Err(Refusal::Object));
+        assert_eq!(core.view(thread(0), object), Err(Refusal::Object));
+        let stored = core.store(thread(0), object, 0, None);
+        assert_eq!(stored, Err(Refusal::Object));
+    }
+}
+
+#[test]
+fn refused_by_14_index() {
+    let mut buffers = Buffers::new();
+    let mut core = buffers.begin();
+    let object = core.allocate(thread(0), 1, 2).unwrap();
+    for index in [2, u64::MAX] {
+        assert_eq!(core.read(thread(0), object, index), Err(Refusal::Index));
+        let written = core.write(thread(0), object, index, 1);
+        assert_eq!(written, Err(Refusal::Index));
+        assert_eq!(core.load(thread(0), object, index), Err(Refusal::Index));
+        let stored = core.store(thread(0), object, index, None);
+        assert_eq!(stored, Err(Refusal::Index));
+    }
+}
+
+#[test]
+fn refused_by_15_target() {
+    let mut buffers = Buffers::new();
+    let mut core = buffers.begin();
+    let object = core.allocate(thread(0), 1, 0).unwrap();
+    let stored = core.store(thread(0), object, 0, Some(handle(1)));
+    assert_eq!(stored, Err(Refusal::Target));
+}
+
+#[test]
+fn refused_by_16_assignment() {
+    let mut buffers = Buffers::new();
+    let mut core = buffers.begin();
+    let in_heap = core.allocate(thread(0), 1, 0).unwrap();
+    core.enter(thread(0), area(2)).unwrap();
+    let outer = core.allocate(thread(0), 1, 0).unwrap();
+    core.enter(thread(0), area(3)).unwrap();
+    let inner = core.allocate(thread(0), 1, 0).unwrap();
+    for object in [in_heap, outer] {
+        let stored = core.store(thread(0), object, 0, Some(inner));
+        assert_eq!(stored, Err(Refusal::Assignment));
+    }
+    assert_eq!(core.store(thread(0), inner, 0, Some(outer)), Ok(()));
+}
+
+/// A refused call changes no word.
+#[test]
+fn refusals_change_nothing() {
+    let mut buffers = Buffers::new();
+    let mut core = buffers.begin();
+    let object = core.allocate(thread(0), 1, 1).unwrap();
+    let kept = (
+        core.permanent().to_vec(),
+        core.scratch().to_vec(),
+        core.map().to_vec(),
+    );
+    assert!(core.write(thread(0), object, 1, 9).is_err());
+    assert!(core.store(thread(0), object, 0, Some(handle(1))).is_err());
+    assert!(core.allocate(thread(0), 16, 16).is_err());
+    let now = (
+        core.permanent().to_vec(),
+        core.scratch().to_vec(),
+        core.map().to_vec(),
+    );
+    assert_eq!(now, kept);
+}
+
+#[test]
+fn numbers_of_refusals() {
+    for number in 1..=17 {
+        let refusal = Refusal::from_number(number).unwrap();
+        assert_eq!(refusal.number(), number);
+    }
+    assert_eq!(Refusal::from_number(0), None);
+    assert_eq!(Refusal::from_number(18), None);
+    let text = Refusal::Parent.to_string();
+    assert_eq!(text, "refused by 10, Parent");
+}

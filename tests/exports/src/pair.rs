@@ -1,0 +1,162 @@
+//! The exported functions and the second implementation side by side: each call goes to both, and
+//! answer, tables and words are compared after it.
+
+use reference::calls::{Call, Op};
+use reference::memory::Memory;
+use reference::state::{self, State};
+
+use crate::calls::{self, Reply, Request};
+use crate::chooser::Seen;
+use crate::exports::{Answer, NewState, Part};
+use crate::lent::Lent;
+
+/// Where a scope's generation stands in the tables: the fourth of the eight words of its area.
+const GENERATION: usize = 3;
+
+pub struct Pair {
+    /// The proved core: its tables and what it is lent.
+    given: NewState,
+    lent: Lent,
+    /// The second implementation.
+    pub state: State,
+    pub memory: Memory,
+}
+
+impl Pair {
+    /// Set-up of both on the same words. A refused one leaves both with empty buffers. Yields its
+    /// status beside them.
+    pub fn set_up(heap: u64, immortal: u64, memory: Memory) -> Result<(u64, Pair), String> {
+        let given = calls::set_up(&memory, heap, immortal);
+        let (answer, state) = state::set_up(heap, immortal, &memory);
+        if given.status != answer.status {
+            let (lengths, status) = (memory.lengths(), given.status);
+            return Err(format!(
+                "set-up {heap}, {immortal} on {lengths:?}: {status}, expected {}",
+                answer.status
+            ));
+        }
+        let memory = if answer.is_accepted() {
+            memory
+        } else {
+            Memory::zeroed(Default::default())
+        };
+        let lent = Lent::new(&memory);
+        let pair = Pair {
+            given,
+            lent,
+            state,
+            memory,
+        };
+        Ok((answer.status, pair))
+    }
+
+    /// What a choice of calls may look at.
+    pub fn seen(&self) -> Seen<'_> {
+        Seen {
+            state: &self.state,
+            memory: &self.memory,
+        }
+    }
+
+    /// A call on the kept buffers.
+    pub fn call(&mut self, request: Request) -> Result<Reply, String> {
+        let before = self.given.clone();
+        let given = calls::call(&mut self.given, &mut self.lent, request);
+        let expected = expected(&mut self.state, &mut self.memory, request);
+        let difference = self.lent.difference(&self.memory);
+        self.compare(request, &before, given, expected, difference)
+    }
+
+    /// A call on other buffers, of other lengths, which are not kept.
+    pub fn call_on(&mut self, other: &Memory, request: Request) -> Result<Reply, String> {
+        let before = self.given.clone();
+        let (mut lent, mut memory) = (Lent::new(other), other.clone());
+        let given = calls::call(&mut self.given, &mut lent, request);
+        let expected = expected(&mut self.state, &mut memory, request);
+        let difference = lent.difference(&memory);
+        self.compare(request, &before, given, expected, difference)
+    }
+
+    fn compare(
+        &self,
+        request: Request,
+        before: &NewState,
+        given: Reply,
+        expected: Reply,
+        difference: Option<String>,
+    ) -> Result<Reply, String> {
+        if given != expected {
+            return Err(format!("{request:x?}: {given:?}, expected {expected:?}"));
+        }
+        if let Some(words) = difference {
+            return Err(format!("{request:x?}: {words}"));
+        }
+        if given.status() != 0 && self.given != *before {
+            return Err(format!("{request:x?}: refused, but the state changed"));
+        }
+        Ok(given)
+    }
+
+    /// A word of a buffer that the host writes itself, on both sides.
+    pub fn poke(&mut self, buffer: Buffer, place: u64, word: u64) {
+        let place = place as usize;
+        let (given, expected) = match buffer {
+            Buffer::Permanent => (&mut self.lent.permanent, &mut self.memory.permanent),
+            Buffer::Scratch => (&mut self.lent.scratch, &mut self.memory.scratch),
+            Buffer::Map => (&mut self.lent.map, &mut self.memory.start_map),
+        };
+        given.words_mut()[place] = word;
+        expected[place] = word;
+    }
+
+    /// A state that no host may make: a scope that is not open gets a generation.
+    pub fn set_generation(&mut self, scope: u64, generation: u64) {
+        self.given.words[scope as usize * 8 + GENERATION] = generation;
+        self.state.areas[scope as usize].generation = generation;
+    }
+}
+
+#[derive(Clone, Copy, Debug)]
+pub enum Buffer {
+    Permanent,
+    Scratch,
+    Map,
+}
+
+/// What the second implementation does.
+fn expected(state: &mut State, memory: &mut Memory, request: Request) -> Reply {
+    let answer = match request {
+        Request::Call(call) => state.run(memory, call),
+        Request::ViewStatus { thread, object } => state.shown_part_status(memory, thread, object),
+        Request::ViewPlace { thread, object } => {
+            return Reply::Part(expected_part(state, memory, thread, object))
+        }
+    };
+    Reply::Answer(Answer {
+        status: answer.status,
+        value: answer.value,
+    })
+}
+
+/// The shown part as numbers: the store, the first word, the length. The part of a refused call is
+/// empty and has no place.
+fn expected_part(state: &State, memory: &Memory, thread: u64, object: u64) -> Part {
+    let status = state.shown_part_status(memory, thread, object).status;
+    let shown = state.shown_part(memory, thread, object);
+    let accepted = status == 0;
+    let object = accepted.then(|| state.resolve(memory, object)).flatten();
+    let permanent = memory.permanent.len() as u64;
+    let first = object.map_or(0, |object| object.first_data());
+    let in_scratch = object.is_some_and(|object| state::is_scope(object.area));
+    Part {
+        status,
+        store: u64::from(in_scratch),
+        from: if in_scratch { first - permanent } else { first },
+        len: shown.len() as u64,
+    }
+}
+
+/// Short for an op of a thread.
+pub fn op(thread: u64, op: Op) -> Request {
+    Request::Call(Call { thread, op })
+}

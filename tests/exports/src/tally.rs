@@ -1,0 +1,116 @@
+//! How often each function gave each status, and which of those that can be given were not.
+
+use std::collections::BTreeMap;
+
+use reference::calls::{Call, Op};
+
+use crate::calls::{Reply, Request};
+
+/// Each function with the statuses that it can give.
+const REACHABLE: [(&str, &[u64]); 15] = [
+    ("set_up", &[0, 1]),
+    ("start", &[0, 1, 2, 3, 4]),
+    ("end", &[0, 1, 2, 11]),
+    ("make", &[0, 1, 2, 6, 7, 8]),
+    ("enter", &[0, 1, 2, 5, 6, 9, 10, 17]),
+    ("exit", &[0, 1, 2, 11]),
+    ("allocate", &[0, 1, 2, 5, 12]),
+    ("store", &[0, 1, 2, 5, 13, 14, 15, 16]),
+    ("load", &[0, 1, 2, 5, 13, 14, 15]),
+    ("write", &[0, 1, 2, 5, 13, 14]),
+    ("read", &[0, 1, 2, 5, 13, 14]),
+    ("view_status", &[0, 1, 2, 5, 13]),
+    ("view_place", &[0, 1, 2, 5, 13]),
+    ("stack_push", &[0, 6, 9]),
+    ("stack_pop", &[0, 11]),
+];
+
+/// What the lists are meant to bring about beside the statuses.
+const SITUATIONS: [&str; 7] = [
+    "a part of the permanent store",
+    "a part of the scratch store",
+    "a part of length 0 that is not refused",
+    "a list after a refused set-up",
+    "a handle that no allocation gave is accepted",
+    "a scope at the last generation",
+    "32 entries on a stack record",
+];
+
+#[derive(Default)]
+pub struct Tally {
+    statuses: BTreeMap<(&'static str, u64), u64>,
+    situations: BTreeMap<&'static str, u64>,
+}
+
+impl Tally {
+    pub fn add(&mut self, function: &'static str, status: u64) {
+        *self.statuses.entry((function, status)).or_default() += 1;
+    }
+
+    pub fn add_reply(&mut self, request: Request, reply: Reply) {
+        self.add(function_of(request), reply.status());
+        if let Reply::Part(part) = reply {
+            let accepted = part.status == 0;
+            self.note(accepted && part.store == 0, SITUATIONS[0]);
+            self.note(accepted && part.store == 1, SITUATIONS[1]);
+            self.note(accepted && part.len == 0, SITUATIONS[2]);
+        }
+    }
+
+    pub fn note(&mut self, happened: bool, situation: &'static str) {
+        debug_assert!(SITUATIONS.contains(&situation));
+        if happened {
+            *self.situations.entry(situation).or_default() += 1;
+        }
+    }
+
+    /// Prints every count; yields how many of those that can come did not.
+    pub fn report(&self) -> u64 {
+        let mut missing = 0;
+        for (function, statuses) in REACHABLE {
+            let counts = statuses.iter().map(|&status| {
+                let count = self.statuses.get(&(function, status));
+                (format!("{status}"), count.copied().unwrap_or(0))
+            });
+            missing += print_counts(function, counts);
+        }
+        let situations = SITUATIONS.iter().map(|&situation| {
+            let count = self.situations.get(situation);
+            (format!("\n  {situation}"), count.copied().unwrap_or(0))
+        });
+        missing + print_counts("situations", situations)
+    }
+}
+
+/// Prints a row of counts; yields how many are 0.
+fn print_counts(name: &str, counts: impl Iterator<Item = (String, u64)>) -> u64 {
+    let mut missing = 0;
+    print!("{name:12}");
+    for (label, count) in counts {
+        print!(" {label}: {count}");
+        missing += u64::from(count == 0);
+    }
+    println!();
+    missing
+}
+
+fn function_of(request: Request) -> &'static str {
+    let Request::Call(Call { op, .. }) = request else {
+        return match request {
+            Request::ViewStatus { .. } => "view_status",
+            _ => "view_place",
+        };
+    };
+    match op {
+        Op::Start { .. } => "start",
+        Op::End => "end",
+        Op::Make { .. } => "make",
+        Op::Enter { .. } => "enter",
+        Op::Exit => "exit",
+        Op::Allocate { .. } => "allocate",
+        Op::Store { .. } => "store",
+        Op::Load { .. } => "load",
+        Op::Write { .. } => "write",
+        Op::Read { .. } => "read",
+    }
+}
