@@ -10,8 +10,8 @@ use borrow.Author.Tests.{eqb-true, le-leb, lt-leb, lt-ltb, le-ltb, eq-eqb, ne-eq
 use Rattle.layout.specs.Choice.{refuse, cases, hit, skip}
 use Rattle.layout.specs.Handle.{null, areaOf}
 use Rattle.layout.specs.Header.{slotsOf, dataOf}
-use Rattle.layout.specs.Display.{rowHolds}
-use Rattle.layout.specs.declared.rights.Right.the-variants.{Use, Refer}
+use Rattle.display.specs.Display.{rowHolds}
+use Rattle.rights.specs.declared.Right.the-variants.{Use, Refer}
 use Rattle.model.specs.declared.Area.{Area}
 use Rattle.model.specs.State.{State, Memory, areaAt, displayHolds}
 use Rattle.model.specs.Checks.{admit, hasRight, headerAt, isObject, isReference, useStatus}

@@ -1,12 +1,11 @@
 // Ops 07 and 08: a reference is stored in a slot, or loaded from one.
 use crate::spot;
 use crate::spot::Spot;
-use layout::display::Depth;
+use display::Depth;
 use layout::handle;
-use layout::rights;
-use layout::rights::Right;
 use layout::stack::Answer;
 use objects::Found;
+use rights::Right;
 ghost use mathlib.Core.Path.{_≡_};
 ghost use mathlib.Core.Bool.{true};
 ghost use Prim.Native.Nat.{_<_};

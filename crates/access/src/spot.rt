@@ -1,8 +1,7 @@
 // What the calls on an object have in common: refusals 1, 2, 13 and 5, and a word that is written.
-use layout::rights;
-use layout::rights::Right;
 use objects::Found;
 use objects::Object;
+use rights::Right;
 ghost use mathlib.Core.Path.{_≡_};
 ghost use Prim.Native.Nat.{_<_};
 ghost use lib.ListN.{length, set};

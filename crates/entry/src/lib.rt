@@ -1,14 +1,14 @@
 // Op 04: an area is entered.
 use areas::make;
-use layout::display::Depth;
-use layout::rights::Right;
+use display::Depth;
 use layout::stack::Answer;
 use layout::stack::Place;
 use model::Area;
+use rights::Right;
 ghost use mathlib.Core.Path.{_≡_};
 ghost use Prim.Native.Nat.{_<_, _≤_};
 ghost use Rattle.layout.specs.Choice.{pick};
-ghost use Rattle.layout.specs.Display.{extendedRow};
+ghost use Rattle.display.specs.Display.{extendedRow};
 ghost use Rattle.model.specs.State.{isScope, threadAt};
 ghost use Rattle.model.specs.Scopes.{lastGeneration, enterStatus, reentered, opened, enteredArea, enterState, enterValue};
 ghost use Rattle.model.specs.Calls as calls;
@@ -28,7 +28,7 @@ fn check_entry(kind: u64, len: u64, inner: u64, x: Area, q: u64) -> u64
     if !make::is_made(x, q) {
         return 6;
     }
-    let allowed = layout::rights::allowed(kind, layout::rights::class_of(q), Right::Enter);
+    let allowed = rights::allowed(kind, rights::class_of(q), Right::Enter);
     if !allowed {
         return 5;
     }
@@ -110,7 +110,7 @@ fn show(bytes: &mut [u8; 3072], q: usize, p: usize, depth: Depth)
     ensures { λ u. ⌜ now (bytes .exit) ≡ putRow (now (bytes .entry)) q (extendedRow (rowOf (now (bytes .entry)) p) (depth .0) q) ⌝ }
 {
     let row = tables::row_at(bytes, p);
-    tables::put_row(bytes, q, layout::display::extended(row, depth, q as u8));
+    tables::put_row(bytes, q, display::extended(row, depth, q as u8));
 }
 
 // Area q is entered where p is the innermost scope; its generation after that.

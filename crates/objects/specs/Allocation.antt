@@ -11,7 +11,7 @@ use lib.ListN.{length}
 use borrow.Author.Tests.{lt-ltb, le-ltb, leb-true, leb-false}
 use Rattle.layout.specs.Choice.{pick, cases, hit, skip}
 use Rattle.layout.specs.Handle.{handleOf}
-use Rattle.layout.specs.declared.rights.Right.the-variants.{Allocate}
+use Rattle.rights.specs.declared.Right.the-variants.{Allocate}
 use Rattle.model.specs.declared.Area.{Area}
 use Rattle.model.specs.State.{State, Memory, areaAt, isScope, storeOf, bitIndex}
 use Rattle.model.specs.Checks.{admit, hasRight}

@@ -1,10 +1,9 @@
 // Op 06: an object is allocated in the current area of a thread.
 use crate::find;
 use layout::handle;
-use layout::rights;
-use layout::rights::Right;
 use layout::stack::Answer;
 use model::Area;
+use rights::Right;
 ghost use mathlib.Core.Path.{_≡_};
 ghost use Prim.Native.Nat.{_+_, _*_, _<_, _≤_};
 ghost use lib.ListN.{length};

@@ -4,14 +4,14 @@
 // The words hold 64 areas of 8 words (the last word of each is spare), 16 threads of 2 (kind, length
 // of the stack), the three lengths of set-up and the number of scratch words taken. The bytes hold
 // 16 stacks of 32 entries, beside each entry the innermost scope as of it, and 64 displays of 32.
-use layout::display::Depth;
+use display::Depth;
 use layout::stack::Place;
 use model::Area;
 use model::Lengths;
 ghost use mathlib.Core.Path.{_≡_};
 ghost use Prim.Native.Nat.{ℕ, _+_, _*_, _<_, _≤_};
 ghost use lib.ListN.{length, getD, set};
-ghost use Rattle.layout.specs.Display.{rowHolds};
+ghost use Rattle.display.specs.Display.{rowHolds};
 ghost use Rattle.tables.specs.Decode.{areaOf, putArea, rowOf, putRow, putKind, putLen, putEntry, putInner, putTaken, lengthsOf, putLengths};
 
 // ---- areas
@@ -179,5 +179,5 @@ pub fn row_holds(bytes: &[u8; 3072], b: usize, depth: Depth, area: u8) -> bool
 {
     let at = 1024 + b * 32;
     let all = &bytes[..];
-    layout::display::holds(&all[at..at + 32], depth, area)
+    display::holds(&all[at..at + 32], depth, area)
 }

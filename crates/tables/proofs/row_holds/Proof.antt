@@ -11,7 +11,7 @@ use lib.Dec.{eqb, ltb}
 use lib.ListN.{getD, take, drop}
 use lib.Seq.{getD-take, getD-drop}
 use Rattle.layout.specs.Choice.{cases}
-use Rattle.layout.specs.Display.{rowHolds}
+use Rattle.display.specs.Display.{rowHolds}
 use Rattle.tables.specs.Cut.{getD-cut}
 use Rattle.tables.specs.Decode.{rowOf}
 use Rattle.tables.proofs.row_holds.Statement.{statement}

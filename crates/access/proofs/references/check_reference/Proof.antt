@@ -6,7 +6,7 @@ use Rattle.model.specs.State.{State, Memory}
 use Rattle.tables.specs.Decode.{stateOf}
 use Rattle.tables.specs.Contract.{memoryOf}
 use borrow.Author.Tests.{not-true, not-false}
-use Rattle.layout.specs.declared.rights.Right.the-variants.{Refer}
+use Rattle.rights.specs.declared.Right.the-variants.{Refer}
 use Rattle.model.specs.Checks.{hasRight}
 use Rattle.objects.specs.declared.find.Found.the-variants.{At}
 use Rattle.objects.specs.Found.{foundOf}

@@ -7,7 +7,7 @@ use Rattle.tables.specs.Decode.{stateOf}
 use Rattle.tables.specs.Contract.{memoryOf}
 use native.Mathlib.Omega.{arith}
 use borrow.Author.Tests.{not-true, not-false}
-use Rattle.layout.specs.declared.rights.Right.the-variants.{Use}
+use Rattle.rights.specs.declared.Right.the-variants.{Use}
 use Rattle.model.specs.Checks.{hasRight}
 use Rattle.model.proofs.Accepted.{Admitted}
 use Rattle.threads.specs.Outcomes.{caller-admitted}

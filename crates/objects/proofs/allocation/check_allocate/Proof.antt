@@ -6,8 +6,8 @@ use native.Mathlib.Omega.{arith}
 use borrow.Author.Needs.{needs}
 use borrow.Author.Tests.{not-true, not-false}
 use denote.Ref.{now}
-use Rattle.layout.specs.Rights.{classOf}
-use Rattle.layout.specs.declared.rights.Right.the-variants.{Allocate}
+use Rattle.rights.specs.Rights.{classOf}
+use Rattle.rights.specs.declared.Right.the-variants.{Allocate}
 use Rattle.model.specs.State.{State, Memory, areaAt}
 use Rattle.model.specs.Checks.{hasRight}
 use Rattle.model.specs.Objects.{currentAt}

@@ -2,7 +2,7 @@
 ghost use mathlib.Core.Path.{_≡_};
 ghost use Prim.Native.Nat.{_<_, _≤_};
 ghost use lib.ListN.{length};
-ghost use Rattle.layout.specs.Display.{extendedRow, rowHolds};
+ghost use Rattle.display.specs.Display.{extendedRow, rowHolds};
 
 // How many scopes a display has: 0 for heap, immortal and every scope that is not open. Source 004
 // counts from -1.

@@ -5,11 +5,11 @@ use mathlib.Core.Bool.{Bool, false}
 use mathlib.Core.List.{List, [], _∷_}
 use lib.Dec.{eqb, ltb}
 use lib.ListN.{getD}
 use Rattle.layout.specs.Choice.{pick}
-use Rattle.layout.specs.declared.rights.Class.{Class}
-use Rattle.layout.specs.declared.rights.Class.the-variants.{Heap, Immortal, Scope}
-use Rattle.layout.specs.declared.rights.Right.{Right}
-use Rattle.layout.specs.declared.rights.Right.the-variants.{Enter, Allocate, Use, Refer}
+use Rattle.rights.specs.declared.Class.{Class}
+use Rattle.rights.specs.declared.Class.the-variants.{Heap, Immortal, Scope}
+use Rattle.rights.specs.declared.Right.{Right}
+use Rattle.rights.specs.declared.Right.the-variants.{Enter, Allocate, Use, Refer}
 
 -- "Area 0 is the heap, 1 immortal, 2 to 63 scopes."
 unfoldable pub classOf : ℕ → Class

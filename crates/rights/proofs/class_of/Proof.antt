@@ -1,8 +1,8 @@
 -- `class_of` meets its contract: a test of the area for each class.
 use borrow.Author.Tests.{eq-eqb, ne-eqb}
-use Rattle.layout.specs.Rights.{classOf}
-use Rattle.layout.proofs.rights.class_of.Statement.{statement}
-use Rattle.layout.proofs.rights.class_of.Tie as tie
+use Rattle.rights.specs.Rights.{classOf}
+use Rattle.rights.proofs.class_of.Statement.{statement}
+use Rattle.rights.proofs.class_of.Tie as tie
 
 returns : tie.Need-returns
 unfolding classOf

@@ -6,12 +6,12 @@ use lib.Dec.{eqb}
 use lib.ListN.{getD}
 use borrow.Author.Needs.{needs}
 use borrow.Author.Tests.{lt-ltb, le-ltb, eq-eqb, ne-eqb}
-use Rattle.layout.specs.Rights.{rightsRows, rightDigit, allows, classIndex, rightIndex}
-use Rattle.layout.specs.declared.rights.Class.{Class}
-use Rattle.layout.specs.declared.rights.Right.{Right}
-use Rattle.layout.proofs.Table.{entries, at}
-use Rattle.layout.proofs.rights.allowed.Statement.{statement}
-use Rattle.layout.proofs.rights.allowed.Tie as tie
+use Rattle.rights.specs.Rights.{rightsRows, rightDigit, allows, classIndex, rightIndex}
+use Rattle.rights.specs.declared.Class.{Class}
+use Rattle.rights.specs.declared.Right.{Right}
+use Rattle.rights.proofs.Table.{entries, at}
+use Rattle.rights.proofs.allowed.Statement.{statement}
+use Rattle.rights.proofs.allowed.Tie as tie
 
 -- the digit at place i of the table
 digit : ℕ → ℕ

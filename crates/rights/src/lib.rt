@@ -1,7 +1,7 @@
 // The constant table of rights: 36 entries, read by kind, class of area and right.
 ghost use mathlib.Core.Path.{_≡_};
 ghost use Prim.Native.Nat.{_<_};
-ghost use Rattle.layout.specs.Rights.{classOf, classIndex, rightIndex, allows};
+ghost use Rattle.rights.specs.Rights.{classOf, classIndex, rightIndex, allows};
 
 // The classes of areas.
 pub enum Class {
