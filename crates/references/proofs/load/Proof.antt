@@ -11,11 +11,11 @@ use Rattle.model.specs.Calls as calls
 use Rattle.model.proofs.Accepted.{SlotOk, slot-ok}
 use Rattle.threads.specs.Outcomes.{told-refused, told-accepted}
 use Rattle.objects.specs.Found.{objectOf}
 use Rattle.access.specs.Spots.{spot-in, spot-refused}
-use Rattle.access.specs.Statuses.{load-no-slot, load-slot}
+use Rattle.references.specs.Statuses.{load-no-slot, load-slot}
 use Rattle.access.specs.Effects.{Room, slot-room, word-is}
-use Rattle.access.proofs.references.load.Statement.{statement}
-use Rattle.access.proofs.references.load.Tie as tie
+use Rattle.references.proofs.load.Statement.{statement}
+use Rattle.references.proofs.load.Tie as tie
 
 abbrev start : tie.After-check-slot → tie.Start
 start c = c .before .before .before .before

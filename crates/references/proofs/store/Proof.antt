@@ -11,10 +11,10 @@ use Rattle.model.specs.Calls as calls
 use Rattle.model.proofs.Accepted.{store-ok}
 use Rattle.threads.specs.Outcomes.{told-refused, told-accepted, written-refused, written-accepted}
 use Rattle.objects.specs.Found.{objectOf}
 use Rattle.access.specs.Spots.{spot-in, spot-refused}
 use Rattle.access.specs.Effects.{Room, slot-room, slot-stored}
-use Rattle.access.proofs.references.store.Statement.{statement}
-use Rattle.access.proofs.references.store.Tie as tie
+use Rattle.references.proofs.store.Statement.{statement}
+use Rattle.references.proofs.store.Tie as tie
 
 abbrev start : tie.After-check-store → tie.Start
 start c = c .before .before .before .before .before .before

@@ -7,9 +7,9 @@ use Rattle.model.specs.declared.Area.{Area}
 use Rattle.tables.specs.Decode.{stateOf}
 use Rattle.tables.specs.Laws.{area-read}
 use Rattle.model.proofs.Bounds.{depth-bound}
-use Rattle.access.specs.Statuses.{may-plain, may-deeper, may-look}
-use Rattle.access.proofs.references.may_refer.Statement.{statement}
-use Rattle.access.proofs.references.may_refer.Tie as tie
+use Rattle.references.specs.Statuses.{may-plain, may-deeper, may-look}
+use Rattle.references.proofs.may_refer.Statement.{statement}
+use Rattle.references.proofs.may_refer.Tie as tie
 
 returns : tie.Need-returns
 returns c = may-plain _ _ _ _ (c .if1 .taken)

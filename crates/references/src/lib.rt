@@ -1,6 +1,5 @@
 // Ops 07 and 08: a reference is stored in a slot, or loaded from one.
-use crate::spot;
-use crate::spot::Spot;
+use access::Spot;
 use display::Depth;
 use layout::handle;
 use layout::stack::Answer;
@@ -48,7 +47,7 @@ fn check_slot(
     requires { ⌜ Ready (now words) (now bytes) ⌝ }
     ensures { λ r. ⌜ r ≡ spotOf (objectOf (stateOf (now (words .entry)) (now (bytes .entry))) (memoryOf (now (permanent .entry)) (now (scratch .entry)) (now (map .entry))) p) (slotStatus (stateOf (now (words .entry)) (now (bytes .entry))) (memoryOf (now (permanent .entry)) (now (scratch .entry)) (now (map .entry))) t p q 0) ⌝ }
 {
-    match spot::check_use(words, bytes, permanent, scratch, map, t, p) {
+    match access::check_use(words, bytes, permanent, scratch, map, t, p) {
         Spot::Refused(n) => Spot::Refused(n),
         Spot::In(o) => {
             if o.slots <= q {
@@ -141,7 +140,7 @@ pub fn store(
         },
         Spot::In(o) => {
             let at = o.at + 1 + q as usize;
-            spot::put_word(permanent, scratch, o.area, at, target);
+            access::put_word(permanent, scratch, o.area, at, target);
             Answer {
                 status: 0,
                 value: 0,

@@ -11,9 +11,9 @@ use Rattle.model.specs.Checks.{hasRight}
 use Rattle.objects.specs.declared.find.Found.the-variants.{At}
 use Rattle.objects.specs.Found.{foundOf}
 use Rattle.objects.specs.Rights.{right-read}
-use Rattle.access.specs.Statuses.{reference-null, reference-nothing, reference-no-right, reference-right}
-use Rattle.access.proofs.references.check_reference.Statement.{statement}
-use Rattle.access.proofs.references.check_reference.Tie as tie
+use Rattle.references.specs.Statuses.{reference-null, reference-nothing, reference-no-right, reference-right}
+use Rattle.references.proofs.check_reference.Statement.{statement}
+use Rattle.references.proofs.check_reference.Tie as tie
 
 -- past null: the entry, the state and the memory
 abbrev start : tie.Else1 → tie.Start

@@ -8,10 +8,10 @@ use Rattle.tables.specs.Contract.{memoryOf}
 use native.Mathlib.Omega.{arith}
 use Rattle.model.specs.Checks.{useStatus}
 use Rattle.objects.specs.Found.{objectOf}
 use Rattle.access.specs.Spots.{in-spot, refused-spot, spot-in, spot-refused}
-use Rattle.access.specs.Statuses.{slot-not-used, slot-past, slot-in}
-use Rattle.access.proofs.references.check_slot.Statement.{statement}
-use Rattle.access.proofs.references.check_slot.Tie as tie
+use Rattle.references.specs.Statuses.{slot-not-used, slot-past, slot-in}
+use Rattle.references.proofs.check_slot.Statement.{statement}
+use Rattle.references.proofs.check_slot.Tie as tie
 
 abbrev start : tie.After-check-use → tie.Start
 start c = c .before .before .before .before

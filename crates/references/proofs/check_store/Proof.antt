@@ -14,10 +14,11 @@ use Rattle.model.specs.References.{mayRefer, slotStatus}
 use Rattle.model.proofs.Accepted.{SlotOk, slot-ok}
 use Rattle.objects.specs.declared.find.Object.{Object}
 use Rattle.objects.specs.Found.{objectOf}
 use Rattle.access.specs.Spots.{in-spot, refused-spot, spot-in, spot-refused}
-use Rattle.access.specs.Statuses.{object-area, store-no-slot, store-no-reference, store-forbidden, store-allowed}
-use Rattle.access.proofs.references.check_store.Statement.{statement}
-use Rattle.access.proofs.references.check_store.Tie as tie
+use Rattle.access.specs.Statuses.{object-area}
+use Rattle.references.specs.Statuses.{store-no-slot, store-no-reference, store-forbidden, store-allowed}
+use Rattle.references.proofs.check_store.Statement.{statement}
+use Rattle.references.proofs.check_store.Tie as tie
 
 abbrev start : tie.After-check-slot → tie.Start
 start c = c .before .before .before .before
