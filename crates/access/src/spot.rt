@@ -40,7 +40,7 @@ pub fn check_use(
     let Found::At(o) = objects::lookup(words, bytes, permanent, scratch, map, p) else {
         return Spot::Refused(13);
     };
-    let kind = tables::kind_at(words, t as usize);
+    let kind = stacks::kind_at(words, t as usize);
     if !rights::allowed(kind, rights::class_of(o.area), Right::Use) {
         return Spot::Refused(5);
     }

@@ -24,7 +24,7 @@ fn check_exit(
     if n != 0 {
         return n;
     }
-    if tables::len_at(words, t as usize) == 0 {
+    if stacks::len_at(words, t as usize) == 0 {
         return 11;
     }
     0
@@ -70,8 +70,8 @@ fn pop(words: &mut [u64; 548], bytes: &[u8; 3072], t: usize)
     requires { ⌜ Sized (now words) (now bytes) × (t < 16) × (0 < threadAt (stateOf (now words) (now bytes)) t .len) ⌝ }
     ensures { λ u. ⌜ Holds (now (words .exit)) (now (bytes .entry)) (withThread (stateOf (now (words .entry)) (now (bytes .entry))) t (popped (threadAt (stateOf (now (words .entry)) (now (bytes .entry))) t))) ⌝ }
 {
-    let len = tables::len_at(words, t);
-    tables::put_len(words, t, len - 1);
+    let len = stacks::len_at(words, t);
+    stacks::put_len(words, t, len - 1);
 }
 
 fn apply_exit(words: &mut [u64; 548], bytes: &[u8; 3072], t: usize) -> u64

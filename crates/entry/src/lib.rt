@@ -69,8 +69,8 @@ fn check_enter(
     if 64 <= q {
         return 6;
     }
-    let kind = tables::kind_at(words, t as usize);
-    let len = tables::len_at(words, t as usize);
+    let kind = stacks::kind_at(words, t as usize);
+    let len = stacks::len_at(words, t as usize);
     let inner = threads::innermost_scope(words, bytes, t as usize);
     let x = tables::area_at(words, q as usize);
     check_entry(kind, len, inner as u64, x, q)
@@ -109,8 +109,8 @@ fn show(bytes: &mut [u8; 3072], q: usize, p: usize, depth: Depth)
     requires { ⌜ (q < 64) × (p < 64) × (depth .0 < 32) ⌝ }
     ensures { λ u. ⌜ now (bytes .exit) ≡ putRow (now (bytes .entry)) q (extendedRow (rowOf (now (bytes .entry)) p) (depth .0) q) ⌝ }
 {
-    let row = tables::row_at(bytes, p);
-    tables::put_row(bytes, q, display::extended(row, depth, q as u8));
+    let row = rows::row_at(bytes, p);
+    rows::put_row(bytes, q, display::extended(row, depth, q as u8));
 }
 
 // Area q is entered where p is the innermost scope; its generation after that.
@@ -151,11 +151,11 @@ fn push(words: &mut [u64; 548], bytes: &mut [u8; 3072], t: usize, q: u8, inner: 
     requires { ⌜ Sized (now words) (now bytes) × (t < 16) × (threadAt (stateOf (now words) (now bytes)) t .len < 32) ⌝ }
     ensures { λ u. ⌜ Holds (now (words .exit)) (now (bytes .exit)) (pushedState (stateOf (now (words .entry)) (now (bytes .entry))) t q inner) ⌝ }
 {
-    let len = tables::len_at(words, t) as usize;
+    let len = stacks::len_at(words, t) as usize;
     let top = Place(len);
-    tables::put_entry(bytes, t, top, q);
-    tables::put_inner(bytes, t, top, inner);
-    tables::put_len(words, t, len as u64 + 1);
+    stacks::put_entry(bytes, t, top, q);
+    stacks::put_inner(bytes, t, top, inner);
+    stacks::put_len(words, t, len as u64 + 1);
 }
 
 // ---- the call

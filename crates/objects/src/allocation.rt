@@ -77,7 +77,7 @@ fn check_allocate(
     if n != 0 {
         return n;
     }
-    let kind = tables::kind_at(words, t as usize);
+    let kind = stacks::kind_at(words, t as usize);
     let area = threads::current_area(words, bytes, t as usize);
     let may = rights::allowed(kind, rights::class_of(area as u64), Right::Allocate);
     let x = tables::area_at(words, area as usize);

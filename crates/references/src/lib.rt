@@ -30,7 +30,7 @@ fn may_refer(words: &[u64; 548], bytes: &[u8; 3072], object: u64, target: u64) -
     if deepest < depth {
         return false;
     }
-    tables::row_holds(bytes, object as usize, Depth(depth as usize), target as u8)
+    rows::row_holds(bytes, object as usize, Depth(depth as usize), target as u8)
 }
 
 // Refusals 1, 2, 13, 5 and 14: an object and one of its slots.
@@ -77,7 +77,7 @@ fn check_reference(
     let Found::At(o) = objects::lookup(words, bytes, permanent, scratch, map, x) else {
         return 15;
     };
-    let kind = tables::kind_at(words, t as usize);
+    let kind = stacks::kind_at(words, t as usize);
     if !rights::allowed(kind, rights::class_of(o.area), Right::Refer) {
         return 5;
     }

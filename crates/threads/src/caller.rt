@@ -42,7 +42,7 @@ pub fn check_caller(
     if 16 <= t {
         return 2;
     }
-    if tables::kind_at(words, t as usize) == 0 {
+    if stacks::kind_at(words, t as usize) == 0 {
         return 2;
     }
     0

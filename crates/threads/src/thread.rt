@@ -27,7 +27,7 @@ fn check_start(
     if 16 <= t {
         return 2;
     }
-    if tables::kind_at(words, t as usize) != 0 {
+    if stacks::kind_at(words, t as usize) != 0 {
         return 3;
     }
     if kind == 0 {
@@ -53,7 +53,7 @@ pub fn start(
 {
     let n = check_start(words, bytes, permanent, scratch, map, t, kind);
     if n == 0 {
-        tables::put_kind(words, t as usize, kind);
+        stacks::put_kind(words, t as usize, kind);
     }
     Answer {
         status: n,
@@ -77,7 +77,7 @@ fn check_end(
     if n != 0 {
         return n;
     }
-    if 0 < tables::len_at(words, t as usize) {
+    if 0 < stacks::len_at(words, t as usize) {
         return 11;
     }
     0
@@ -96,7 +96,7 @@ pub fn end(
 {
     let n = check_end(words, bytes, permanent, scratch, map, t);
     if n == 0 {
-        tables::put_kind(words, t as usize, 0);
+        stacks::put_kind(words, t as usize, 0);
     }
     Answer {
         status: n,

@@ -7,10 +7,10 @@ use lib.ListN.{length, getD, set, take}
 use denote.Ref.{now}
 use lib.Seq.{take-all}
 use borrow.Author.Needs.{needs}
 use Rattle.tables.specs.Cut.{put, put-none, put-more}
 use Rattle.tables.specs.Decode.{putRow}
-use Rattle.tables.proofs.put_row.Statement.{statement}
-use Rattle.tables.proofs.put_row.Tie as tie
+use Rattle.rows.proofs.put_row.Statement.{statement}
+use Rattle.rows.proofs.put_row.Tie as tie
 
 abbrev Inv-loop : tie.InvT-loop
 Inv-loop bytes₀ a row at i₀ bytes i = (i ≤ 32) × (at ≡ 1024 + a * 32) × (bytes ≡ put bytes₀ at (take i row)) × (length row ≡ 32)

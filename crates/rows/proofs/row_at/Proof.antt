@@ -6,10 +6,10 @@ use native.Mathlib.Omega.{arith}
 use denote.Ref.{now}
 use lib.ListN.{length, getD, set, take, length-set}
 use borrow.Author.Needs.{needs}
 use Rattle.tables.specs.Cut.{cut, read-more, read-all}
 use Rattle.tables.specs.Decode.{rowOf}
-use Rattle.tables.proofs.row_at.Statement.{statement}
-use Rattle.tables.proofs.row_at.Tie as tie
+use Rattle.rows.proofs.row_at.Statement.{statement}
+use Rattle.rows.proofs.row_at.Tie as tie
 
 abbrev Inv-loop : tie.InvT-loop
 Inv-loop bytes a at row₀ i₀ row i = (i ≤ 32) × (at ≡ 1024 + a * 32) × (length row ≡ 32) × ((k : ℕ) → k < i → getD row k 0 ≡ getD bytes (at + k) 0)

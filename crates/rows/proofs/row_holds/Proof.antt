@@ -12,10 +12,10 @@ use lib.ListN.{getD, take, drop}
 use lib.Seq.{getD-take, getD-drop}
 use Rattle.layout.specs.Choice.{cases}
 use Rattle.display.specs.Display.{rowHolds}
 use Rattle.tables.specs.Cut.{getD-cut}
 use Rattle.tables.specs.Decode.{rowOf}
-use Rattle.tables.proofs.row_holds.Statement.{statement}
-use Rattle.tables.proofs.row_holds.Tie as tie
+use Rattle.rows.proofs.row_holds.Statement.{statement}
+use Rattle.rows.proofs.row_holds.Tie as tie
 
 -- a look at a depth sees one element of the row
 part-holds : (b : List ℕ) (a d x : ℕ) → d ≤ 32 → rowHolds (take 32 (drop (1024 + a * 32) b)) d x ≡ rowHolds (rowOf b a) d x
