@@ -2,9 +2,9 @@
 use mathlib.Core.Path.{_∙_}
 use borrow.Author.Needs.{needs}
 use denote.Ref.{now}
 use Rattle.objects.specs.Stores.{object-marked}
-use Rattle.objects.proofs.allocation.mark_object.Statement.{statement}
-use Rattle.objects.proofs.allocation.mark_object.Tie as tie
+use Rattle.allocation.proofs.mark_object.Statement.{statement}
+use Rattle.allocation.proofs.mark_object.Tie as tie
 
 add-clear-bits : tie.Need-add-clear-bits
 add-clear-bits c = search needs

@@ -8,8 +8,8 @@ use Rattle.model.proofs.Accepted.{allocate-ok}
 use Rattle.tables.specs.Decode.{stateOf}
 use Rattle.tables.specs.Contract.{memoryOf}
 use Rattle.threads.specs.Outcomes.{done-refused, done-accepted, written-refused, written-accepted}
-use Rattle.objects.proofs.allocation.allocate.Statement.{statement}
-use Rattle.objects.proofs.allocation.allocate.Tie as tie
+use Rattle.allocation.proofs.allocate.Statement.{statement}
+use Rattle.allocation.proofs.allocate.Tie as tie
 
 -- the entry, past the checks
 abbrev start : tie.After-check-allocate → tie.Start

@@ -7,9 +7,9 @@ use native.Mathlib.Numerals.{add-one}
 use denote.Ref.{now}
 use lib.ListN.{length, set, length-set}
 use Rattle.model.specs.Objects.{filled}
 use Rattle.objects.specs.Stores.{object-written}
-use Rattle.objects.proofs.allocation.write_object.Statement.{statement}
-use Rattle.objects.proofs.allocation.write_object.Tie as tie
+use Rattle.allocation.proofs.write_object.Statement.{statement}
+use Rattle.allocation.proofs.write_object.Tie as tie
 
 abbrev Inv-loop : tie.InvT-loop
 Inv-loop store₀ at slots words n i₀ store i = (store ≡ filled store₀ (at + 1) i 0) × (n ≡ slots + words) × (i ≤ n) × (length store ≡ length store₀)

@@ -17,10 +17,10 @@ use Rattle.tables.specs.Laws.{area-read}
 use Rattle.tables.specs.Contract.{memoryOf}
 use Rattle.threads.specs.Outcomes.{caller-admitted}
 use Rattle.model.proofs.Bounds.{current-area}
 use Rattle.objects.specs.Rights.{right-read}
-use Rattle.objects.specs.Allocation.{allocate-not-called, allocate-no-right, allocate-no-room, allocate-room}
-use Rattle.objects.proofs.allocation.check_allocate.Statement.{statement}
-use Rattle.objects.proofs.allocation.check_allocate.Tie as tie
+use Rattle.allocation.specs.Allocation.{allocate-not-called, allocate-no-right, allocate-no-room, allocate-room}
+use Rattle.allocation.proofs.check_allocate.Statement.{statement}
+use Rattle.allocation.proofs.check_allocate.Tie as tie
 
 -- past refusals 1 and 2: the entry, the state and the memory
 abbrev start : tie.Else1 → tie.Start

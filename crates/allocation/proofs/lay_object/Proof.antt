@@ -5,9 +5,9 @@ use borrow.Author.Needs.{needs}
 use borrow.Author.Tests.{le-leb, lt-leb}
 use denote.Ref.{now}
 use Rattle.model.specs.Objects.{objectWords}
 use Rattle.objects.specs.Stores.{stored-permanent, stored-scratch}
-use Rattle.objects.proofs.allocation.lay_object.Statement.{statement}
-use Rattle.objects.proofs.allocation.lay_object.Tie as tie
+use Rattle.allocation.proofs.lay_object.Statement.{statement}
+use Rattle.allocation.proofs.lay_object.Tie as tie
 
 write-object-requires : tie.Need-write-object-requires
 write-object-requires c κs = rw (lt-leb 2 (c .before .before .before .before .args .area) (c .before .if1 .taken)) at (c .before .before .before .before .pre)

@@ -1,5 +1,4 @@
 // Op 06: an object is allocated in the current area of a thread.
-use crate::find;
 use layout::handle;
 use layout::stack::Answer;
 use model::Area;
@@ -14,8 +13,8 @@ ghost use Rattle.model.specs.Calls as calls;
 ghost use Rattle.model.proofs.Accepted.{AllocateOk};
 ghost use Rattle.tables.specs.Decode.{stateOf};
 ghost use Rattle.tables.specs.Contract.{memoryOf, Ready, Done, Written};
 ghost use Rattle.objects.specs.Stores.{Stored};
-ghost use Rattle.objects.specs.Allocation.{Allocated};
+ghost use Rattle.allocation.specs.Allocation.{Allocated};
 
 // The words of an object of a store: its header, and 0 in its slots and its data.
 fn write_object(store: &mut [u64], at: usize, slots: u64, words: u64)
@@ -112,7 +111,7 @@ fn apply_allocate(
     let area = threads::current_area(words, bytes, t) as u64;
     let x = tables::area_at(words, area as usize);
     let at = (x.start + x.used) as usize;
-    let bit = find::bit_index(permanent.len(), area, at);
+    let bit = objects::bit_index(permanent.len(), area, at);
     mark_object(map, bit, (slots + data_words) as usize);
     lay_object(permanent, scratch, area, at, slots, data_words);
     let next = Area {

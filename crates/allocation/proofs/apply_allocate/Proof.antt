@@ -8,9 +8,9 @@ use Rattle.model.specs.State.{Memory, areaAt}
 use Rattle.tables.specs.Decode.{stateOf}
 use Rattle.tables.specs.Laws.{area-read}
 use Rattle.tables.specs.Contract.{memoryOf}
-use Rattle.objects.specs.Allocation.{area-low, words-low, words-in, bit-sum, bits-in, bits-low, allocated}
-use Rattle.objects.proofs.allocation.apply_allocate.Statement.{statement}
-use Rattle.objects.proofs.allocation.apply_allocate.Tie as tie
+use Rattle.allocation.specs.Allocation.{area-low, words-low, words-in, bit-sum, bits-in, bits-low, allocated}
+use Rattle.allocation.proofs.apply_allocate.Statement.{statement}
+use Rattle.allocation.proofs.apply_allocate.Tie as tie
 
 abbrev start : tie.After-area-at → tie.Start
 start c = c .before .before .before .before .before .before .before
