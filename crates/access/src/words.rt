@@ -52,10 +52,7 @@ pub fn write(
     ensures { λ r. ⌜ Written (now (permanent .exit)) (now (scratch .exit)) (now (map .entry)) (calls.outcomeOf (stateOf (now (words .entry)) (now (bytes .entry))) (memoryOf (now (permanent .entry)) (now (scratch .entry)) (now (map .entry))) (calls.write t p q word)) ⌝ }
 {
     match check_data(words, bytes, permanent, scratch, map, t, p, q) {
-        Spot::Refused(n) => Answer {
-            status: n,
-            value: 0,
-        },
+        Spot::Refused(status) => Answer { status, value: 0 },
         Spot::In(o) => {
             let at = o.at + 1 + (o.slots + q) as usize;
             spot::put_word(permanent, scratch, o.area, at, word);
@@ -82,16 +79,11 @@ pub fn read(
     ensures { λ r. ⌜ Told (r .status) (r .value) (stateOf (now (words .entry)) (now (bytes .entry))) (calls.outcomeOf (stateOf (now (words .entry)) (now (bytes .entry))) (memoryOf (now (permanent .entry)) (now (scratch .entry)) (now (map .entry))) (calls.read t p q)) ⌝ }
 {
     match check_data(words, bytes, permanent, scratch, map, t, p, q) {
-        Spot::Refused(n) => Answer {
-            status: n,
-            value: 0,
-        },
+        Spot::Refused(status) => Answer { status, value: 0 },
         Spot::In(o) => {
             let from = o.at + 1 + (o.slots + q) as usize;
-            Answer {
-                status: 0,
-                value: objects::word_at(permanent, scratch, o.area, from),
-            }
+            let value = objects::word_at(permanent, scratch, o.area, from);
+            Answer { status: 0, value }
         }
     }
 }

@@ -72,9 +72,9 @@ fn check_allocate(
     requires { ⌜ Ready (now words) (now bytes) ⌝ }
     ensures { λ r. ⌜ r ≡ allocateStatus (stateOf (now (words .entry)) (now (bytes .entry))) (memoryOf (now (permanent .entry)) (now (scratch .entry)) (now (map .entry))) t slots data_words ⌝ }
 {
-    let n = threads::check_caller(words, bytes, permanent, scratch, map, t);
-    if n != 0 {
-        return n;
+    let refusal = threads::check_caller(words, bytes, permanent, scratch, map, t);
+    if refusal != 0 {
+        return refusal;
     }
     let kind = stacks::kind_at(words, t as usize);
     let area = threads::current_area(words, bytes, t as usize);

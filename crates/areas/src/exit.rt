@@ -20,9 +20,9 @@ fn check_exit(
 ) -> u64
     ensures { λ n. ⌜ n ≡ exitStatus (stateOf (now (words .entry)) (now (bytes .entry))) (memoryOf (now (permanent .entry)) (now (scratch .entry)) (now (map .entry))) t ⌝ }
 {
-    let n = threads::check_caller(words, bytes, permanent, scratch, map, t);
-    if n != 0 {
-        return n;
+    let refusal = threads::check_caller(words, bytes, permanent, scratch, map, t);
+    if refusal != 0 {
+        return refusal;
     }
     if stacks::len_at(words, t as usize) == 0 {
         return 11;
@@ -96,12 +96,9 @@ pub fn exit(
     requires { ⌜ Ready (now words) (now bytes) ⌝ }
     ensures { λ r. ⌜ Done (r .status) (r .value) (now (words .exit)) (now (bytes .entry)) (calls.outcomeOf (stateOf (now (words .entry)) (now (bytes .entry))) (memoryOf (now (permanent .entry)) (now (scratch .entry)) (now (map .entry))) (calls.exit t)) ⌝ }
 {
-    let n = check_exit(words, bytes, permanent, scratch, map, t);
-    if n != 0 {
-        return Answer {
-            status: n,
-            value: 0,
-        };
+    let status = check_exit(words, bytes, permanent, scratch, map, t);
+    if status != 0 {
+        return Answer { status, value: 0 };
     }
     Answer {
         status: 0,

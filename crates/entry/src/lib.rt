@@ -62,9 +62,9 @@ fn check_enter(
     requires { ⌜ Ready (now words) (now bytes) ⌝ }
     ensures { λ n. ⌜ n ≡ enterStatus (stateOf (now (words .entry)) (now (bytes .entry))) (memoryOf (now (permanent .entry)) (now (scratch .entry)) (now (map .entry))) t q ⌝ }
 {
-    let n = threads::check_caller(words, bytes, permanent, scratch, map, t);
-    if n != 0 {
-        return n;
+    let refusal = threads::check_caller(words, bytes, permanent, scratch, map, t);
+    if refusal != 0 {
+        return refusal;
     }
     if 64 <= q {
         return 6;
@@ -183,12 +183,9 @@ pub fn enter(
     requires { ⌜ Ready (now words) (now bytes) ⌝ }
     ensures { λ r. ⌜ Done (r .status) (r .value) (now (words .exit)) (now (bytes .exit)) (calls.outcomeOf (stateOf (now (words .entry)) (now (bytes .entry))) (memoryOf (now (permanent .entry)) (now (scratch .entry)) (now (map .entry))) (calls.enter t q)) ⌝ }
 {
-    let n = check_enter(words, bytes, permanent, scratch, map, t, q);
-    if n != 0 {
-        return Answer {
-            status: n,
-            value: 0,
-        };
+    let status = check_enter(words, bytes, permanent, scratch, map, t, q);
+    if status != 0 {
+        return Answer { status, value: 0 };
     }
     Answer {
         status: 0,

@@ -134,10 +134,7 @@ pub fn store(
     ensures { λ r. ⌜ Written (now (permanent .exit)) (now (scratch .exit)) (now (map .entry)) (calls.outcomeOf (stateOf (now (words .entry)) (now (bytes .entry))) (memoryOf (now (permanent .entry)) (now (scratch .entry)) (now (map .entry))) (calls.store t p q target)) ⌝ }
 {
     match check_store(words, bytes, permanent, scratch, map, t, p, q, target) {
-        Spot::Refused(n) => Answer {
-            status: n,
-            value: 0,
-        },
+        Spot::Refused(status) => Answer { status, value: 0 },
         Spot::In(o) => {
             let at = o.at + 1 + q as usize;
             access::put_word(permanent, scratch, o.area, at, target);
@@ -166,24 +163,15 @@ pub fn load(
     ensures { λ r. ⌜ Told (r .status) (r .value) (stateOf (now (words .entry)) (now (bytes .entry))) (calls.outcomeOf (stateOf (now (words .entry)) (now (bytes .entry))) (memoryOf (now (permanent .entry)) (now (scratch .entry)) (now (map .entry))) (calls.load t p q)) ⌝ }
 {
     match check_slot(words, bytes, permanent, scratch, map, t, p, q) {
-        Spot::Refused(n) => Answer {
-            status: n,
-            value: 0,
-        },
+        Spot::Refused(status) => Answer { status, value: 0 },
         Spot::In(o) => {
             let from = o.at + 1 + q as usize;
             let x = objects::word_at(permanent, scratch, o.area, from);
-            let n = check_reference(words, bytes, permanent, scratch, map, t, x);
-            if n != 0 {
-                return Answer {
-                    status: n,
-                    value: 0,
-                };
+            let status = check_reference(words, bytes, permanent, scratch, map, t, x);
+            if status != 0 {
+                return Answer { status, value: 0 };
             }
-            Answer {
-                status: n,
-                value: x,
-            }
+            Answer { status, value: x }
         }
     }
 }

@@ -56,8 +56,8 @@ status c =
 check-slot-requires : tie.Need-check-slot-requires
 check-slot-requires c κs = search needs
 
-enum-known-n : tie.Need-enum-known-n
-enum-known-n c = search needs
+enum-known-status : tie.Need-enum-known-status
+enum-known-status c = search needs
 
 enum-known-o : tie.Need-enum-known-o
 enum-known-o c = search needs
@@ -84,7 +84,7 @@ returns c =
 returns-2 : tie.Need-returns-2
 returns-2 c =
     let d = c .before .before .before in
-    let e = spot-refused _ (sym (c .before .n .given .1) ∙ d .check-slot .ensures) in
+    let e = spot-refused _ (sym (c .before .status .given .1) ∙ d .check-slot .ensures) in
     told-refused (state d) (memory d) (call d) (load-no-slot _ _ _ _ _ (e .0) (e .1)) (e .1)
 
 returns-3 : tie.Need-returns-3
@@ -97,7 +97,7 @@ load-spec =
     tie.close
     (tie.spec
     check-slot-requires
-    enum-known-n
+    enum-known-status
     enum-known-o
     add-from
     add-from-2

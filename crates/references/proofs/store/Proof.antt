@@ -43,8 +43,8 @@ room c =
 check-store-requires : tie.Need-check-store-requires
 check-store-requires c κs = search needs
 
-enum-known-n : tie.Need-enum-known-n
-enum-known-n c = search needs
+enum-known-status : tie.Need-enum-known-status
+enum-known-status c = search needs
 
 enum-known-o : tie.Need-enum-known-o
 enum-known-o c = search needs
@@ -67,7 +67,7 @@ same-length-2 c = search needs
 returns : tie.Need-returns
 returns c =
     let d = c .before .before .before in
-    let e = spot-refused _ (sym (c .before .n .given .1) ∙ d .check-store .ensures) in (
+    let e = spot-refused _ (sym (c .before .status .given .1) ∙ d .check-store .ensures) in (
       told-refused (state d) (memory d) (call d) (e .0) (e .1),
       written-refused (state d) (memory d) (call d) (e .0) (e .1),
     )
@@ -92,7 +92,7 @@ store-spec =
     tie.close
     (tie.spec
     check-store-requires
-    enum-known-n
+    enum-known-status
     enum-known-o
     add-at
     add-at-2

@@ -44,8 +44,8 @@ room c =
 check-data-requires : tie.Need-check-data-requires
 check-data-requires c κs = search needs
 
-enum-known-n : tie.Need-enum-known-n
-enum-known-n c = search needs
+enum-known-status : tie.Need-enum-known-status
+enum-known-status c = search needs
 
 enum-known-o : tie.Need-enum-known-o
 enum-known-o c = search needs
@@ -65,7 +65,7 @@ word-at-requires c κs = room (c .before .before) .inside
 returns : tie.Need-returns
 returns c =
     let d = c .before .before .before in
-    let e = spot-refused _ (sym (c .before .n .given .1) ∙ d .check-data .ensures) in
+    let e = spot-refused _ (sym (c .before .status .given .1) ∙ d .check-data .ensures) in
     told-refused (state d) (memory d) (call d) (e .0) (e .1)
 
 returns-2 : tie.Need-returns-2
@@ -80,7 +80,7 @@ read-spec =
     tie.close
     (tie.spec
     check-data-requires
-    enum-known-n
+    enum-known-status
     enum-known-o
     add-from
     add-from-2

@@ -44,8 +44,8 @@ room c =
 check-data-requires : tie.Need-check-data-requires
 check-data-requires c κs = search needs
 
-enum-known-n : tie.Need-enum-known-n
-enum-known-n c = search needs
+enum-known-status : tie.Need-enum-known-status
+enum-known-status c = search needs
 
 enum-known-o : tie.Need-enum-known-o
 enum-known-o c = search needs
@@ -71,7 +71,7 @@ same-length-2 c = search needs
 returns : tie.Need-returns
 returns c =
     let d = c .before .before .before in
-    let e = spot-refused _ (sym (c .before .n .given .1) ∙ d .check-data .ensures) in (
+    let e = spot-refused _ (sym (c .before .status .given .1) ∙ d .check-data .ensures) in (
       told-refused (state d) (memory d) (call d) (e .0) (e .1),
       written-refused (state d) (memory d) (call d) (e .0) (e .1),
     )
@@ -96,7 +96,7 @@ write-spec =
     tie.close
     (tie.spec
     check-data-requires
-    enum-known-n
+    enum-known-status
     enum-known-o
     add-at
     add-at-2
