@@ -1,13 +1,12 @@
 // What the calls on an object have in common: refusals 1, 2, 13 and 5, and a word that is written.
-use layout::rights;
-use layout::rights::Right;
 use objects::Found;
 use objects::Object;
+use rights::Right;
 ghost use mathlib.Core.Path.{_≡_};
 ghost use Prim.Native.Nat.{_<_};
 ghost use lib.ListN.{length, set};
 ghost use Rattle.layout.specs.Choice.{pick};
-ghost use Rattle.layout.specs.declared.rights.Right.the-variants.{Use};
+ghost use Rattle.rights.specs.declared.Right.the-variants.{Use};
 ghost use Rattle.model.specs.State.{isScope};
 ghost use Rattle.model.specs.Checks.{hasRight, useStatus};
 ghost use Rattle.tables.specs.Decode.{stateOf};
@@ -27,7 +26,7 @@ pub fn may_use(words: &[u64; 548], bytes: &[u8; 3072], t: usize, area: u64) -> b
     requires { ⌜ t < 16 ⌝ }
     ensures { λ r. ⌜ r ≡ hasRight (stateOf (now (words .entry)) (now (bytes .entry))) t Use area ⌝ }
 {
-    let kind = tables::kind_at(words, t);
+    let kind = stacks::kind_at(words, t);
     rights::allowed(kind, rights::class_of(area), Right::Use)
 }
 

@@ -55,10 +55,8 @@ pub fn write(
     }
     let at = o.at + 1 + (o.slots + q) as usize;
     spot::put_word(permanent, scratch, o.area, at, word);
-    Answer {
-        status: 0,
-        value: 0,
-    }
+    let value = 0; // none is named
+    Answer { status: 0, value }
 }
 
 // Op 0a: object p, data word q; the value is the word.
@@ -101,6 +99,9 @@ pub fn read(
         };
     }
     let from = x.at + 1 + (x.slots + q) as usize;
-    let value = objects::word_at(permanent, scratch, x.area, from);
-    Answer { status: 0, value }
+    let word = objects::word_at(permanent, scratch, x.area, from);
+    Answer {
+        status: 0,
+        value: word,
+    }
 }

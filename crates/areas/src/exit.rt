@@ -20,11 +20,11 @@ fn check_exit(
 ) -> u64
     ensures { λ n. ⌜ n ≡ exitStatus (stateOf (now (words .entry)) (now (bytes .entry))) (memoryOf (now (permanent .entry)) (now (scratch .entry)) (now (map .entry))) t ⌝ }
 {
-    let n = threads::check_caller(words, bytes, permanent, scratch, map, t);
-    if n != 0 {
-        return n;
+    let refusal = threads::check_caller(words, bytes, permanent, scratch, map, t);
+    if refusal != 0 {
+        return refusal;
     }
-    if tables::len_at(words, t as usize) == 0 {
+    if stacks::len_at(words, t as usize) == 0 {
         return 11;
     }
     0
@@ -70,8 +70,8 @@ fn pop(words: &mut [u64; 548], bytes: &[u8; 3072], t: usize)
     requires { ⌜ Sized (now words) (now bytes) × (t < 16) × (0 < threadAt (stateOf (now words) (now bytes)) t .len) ⌝ }
     ensures { λ u. ⌜ Holds (now (words .exit)) (now (bytes .entry)) (withThread (stateOf (now (words .entry)) (now (bytes .entry))) t (popped (threadAt (stateOf (now (words .entry)) (now (bytes .entry))) t))) ⌝ }
 {
-    let len = tables::len_at(words, t);
-    tables::put_len(words, t, len - 1);
+    let len = stacks::len_at(words, t);
+    stacks::put_len(words, t, len - 1);
 }
 
 fn apply_exit(words: &mut [u64; 548], bytes: &[u8; 3072], t: usize) -> u64
@@ -96,12 +96,9 @@ pub fn exit(
     requires { ⌜ Ready (now words) (now bytes) ⌝ }
     ensures { λ r. ⌜ Done (r .status) (r .value) (now (words .exit)) (now (bytes .entry)) (calls.outcomeOf (stateOf (now (words .entry)) (now (bytes .entry))) (memoryOf (now (permanent .entry)) (now (scratch .entry)) (now (map .entry))) (calls.exit t)) ⌝ }
 {
-    let n = check_exit(words, bytes, permanent, scratch, map, t);
-    if n != 0 {
-        return Answer {
-            status: n,
-            value: 0,
-        };
+    let status = check_exit(words, bytes, permanent, scratch, map, t);
+    if status != 0 {
+        return Answer { status, value: 0 };
     }
     Answer {
         status: 0,

@@ -43,9 +43,9 @@ fn check_make(
     requires { ⌜ Ready (now words) (now bytes) ⌝ }
     ensures { λ n. ⌜ n ≡ makeStatus (stateOf (now (words .entry)) (now (bytes .entry))) (memoryOf (now (permanent .entry)) (now (scratch .entry)) (now (map .entry))) t q r ⌝ }
 {
-    let n = threads::check_caller(words, bytes, permanent, scratch, map, t);
-    if n != 0 {
-        return n;
+    let refusal = threads::check_caller(words, bytes, permanent, scratch, map, t);
+    if refusal != 0 {
+        return refusal;
     }
     if q < 2 {
         return 6;
@@ -99,12 +99,9 @@ pub fn make(
     requires { ⌜ Ready (now words) (now bytes) ⌝ }
     ensures { λ a. ⌜ Done (a .status) (a .value) (now (words .exit)) (now (bytes .entry)) (calls.outcomeOf (stateOf (now (words .entry)) (now (bytes .entry))) (memoryOf (now (permanent .entry)) (now (scratch .entry)) (now (map .entry))) (calls.make t q r)) ⌝ }
 {
-    let n = check_make(words, bytes, permanent, scratch, map, t, q, r);
-    if n == 0 {
+    let status = check_make(words, bytes, permanent, scratch, map, t, q, r);
+    if status == 0 {
         apply_make(words, bytes, q as usize, r);
     }
-    Answer {
-        status: n,
-        value: 0,
-    }
+    Answer { status, value: 0 }
 }

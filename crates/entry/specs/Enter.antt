@@ -10,8 +10,8 @@ use lib.Dec.{eqb, leb, ltb}
 use lib.ListN.{getD, set}
 use borrow.Author.Tests.{le-leb, lt-leb, lt-ltb, le-ltb, eq-eqb, ne-eqb}
 use Rattle.layout.specs.Choice.{refuse}
-use Rattle.layout.specs.Rights.{classOf, allows}
-use Rattle.layout.specs.declared.rights.Right.the-variants.{Enter}
+use Rattle.rights.specs.Rights.{classOf, allows}
+use Rattle.rights.specs.declared.Right.the-variants.{Enter}
 use Rattle.model.specs.declared.Area.{Area}
 use Rattle.model.specs.State.{State, Memory, areaAt, threadAt, stackAt, innermost, isMade, isScope, withThread}
 use Rattle.model.specs.Checks.{admit, hasRight}

@@ -1,14 +1,14 @@
 // Op 04: an area is entered.
 use areas::make;
-use layout::display::Depth;
-use layout::rights::Right;
+use display::Depth;
 use layout::stack::Answer;
 use layout::stack::Place;
 use model::Area;
+use rights::Right;
 ghost use mathlib.Core.Path.{_≡_};
 ghost use Prim.Native.Nat.{_<_, _≤_};
 ghost use Rattle.layout.specs.Choice.{pick};
-ghost use Rattle.layout.specs.Display.{extendedRow};
+ghost use Rattle.display.specs.Display.{extendedRow};
 ghost use Rattle.model.specs.State.{isScope, threadAt};
 ghost use Rattle.model.specs.Scopes.{lastGeneration, enterStatus, reentered, opened, enteredArea, enterState, enterValue};
 ghost use Rattle.model.specs.Calls as calls;
@@ -28,7 +28,7 @@ fn check_entry(kind: u64, len: u64, inner: u64, x: Area, q: u64) -> u64
     if !make::is_made(x, q) {
         return 6;
     }
-    let allowed = layout::rights::allowed(kind, layout::rights::class_of(q), Right::Enter);
+    let allowed = rights::allowed(kind, rights::class_of(q), Right::Enter);
     if !allowed {
         return 5;
     }
@@ -62,15 +62,15 @@ fn check_enter(
     requires { ⌜ Ready (now words) (now bytes) ⌝ }
     ensures { λ n. ⌜ n ≡ enterStatus (stateOf (now (words .entry)) (now (bytes .entry))) (memoryOf (now (permanent .entry)) (now (scratch .entry)) (now (map .entry))) t q ⌝ }
 {
-    let n = threads::check_caller(words, bytes, permanent, scratch, map, t);
-    if n != 0 {
-        return n;
+    let refusal = threads::check_caller(words, bytes, permanent, scratch, map, t);
+    if refusal != 0 {
+        return refusal;
     }
     if 64 <= q {
         return 6;
     }
-    let kind = tables::kind_at(words, t as usize);
-    let len = tables::len_at(words, t as usize);
+    let kind = stacks::kind_at(words, t as usize);
+    let len = stacks::len_at(words, t as usize);
     let inner = threads::innermost_scope(words, bytes, t as usize);
     let x = tables::area_at(words, q as usize);
     check_entry(kind, len, inner as u64, x, q)
@@ -104,13 +104,17 @@ fn opened_area(x: Area, parent: u64, depth: Depth) -> Area
     }
 }
 
-// The display of scope q, which opens below p: that of p, with q last.
+// The display of scope q, which opens below p: that of p, with q last. The copied row is put first and
+// its one new entry behind it: read back as a whole, it would have to wait for that byte.
 fn show(bytes: &mut [u8; 3072], q: usize, p: usize, depth: Depth)
     requires { ⌜ (q < 64) × (p < 64) × (depth .0 < 32) ⌝ }
     ensures { λ u. ⌜ now (bytes .exit) ≡ putRow (now (bytes .entry)) q (extendedRow (rowOf (now (bytes .entry)) p) (depth .0) q) ⌝ }
 {
-    let row = tables::row_at(bytes, p);
-    tables::put_row(bytes, q, layout::display::extended(row, depth, q as u8));
+    let row = rows::row_at(bytes, p);
+    let next = display::extended(row, depth, q as u8);
+    let last = depth.0;
+    rows::put_row(bytes, q, row);
+    rows::put_ancestor(bytes, q, depth, next[last]);
 }
 
 // Area q is entered where p is the innermost scope; its generation after that.
@@ -151,11 +155,11 @@ fn push(words: &mut [u64; 548], bytes: &mut [u8; 3072], t: usize, q: u8, inner: 
     requires { ⌜ Sized (now words) (now bytes) × (t < 16) × (threadAt (stateOf (now words) (now bytes)) t .len < 32) ⌝ }
     ensures { λ u. ⌜ Holds (now (words .exit)) (now (bytes .exit)) (pushedState (stateOf (now (words .entry)) (now (bytes .entry))) t q inner) ⌝ }
 {
-    let len = tables::len_at(words, t) as usize;
+    let len = stacks::len_at(words, t) as usize;
     let top = Place(len);
-    tables::put_entry(bytes, t, top, q);
-    tables::put_inner(bytes, t, top, inner);
-    tables::put_len(words, t, len as u64 + 1);
+    stacks::put_entry(bytes, t, top, q);
+    stacks::put_inner(bytes, t, top, inner);
+    stacks::put_len(words, t, len as u64 + 1);
 }
 
 // ---- the call
@@ -183,12 +187,9 @@ pub fn enter(
     requires { ⌜ Ready (now words) (now bytes) ⌝ }
     ensures { λ r. ⌜ Done (r .status) (r .value) (now (words .exit)) (now (bytes .exit)) (calls.outcomeOf (stateOf (now (words .entry)) (now (bytes .entry))) (memoryOf (now (permanent .entry)) (now (scratch .entry)) (now (map .entry))) (calls.enter t q)) ⌝ }
 {
-    let n = check_enter(words, bytes, permanent, scratch, map, t, q);
-    if n != 0 {
-        return Answer {
-            status: n,
-            value: 0,
-        };
+    let status = check_enter(words, bytes, permanent, scratch, map, t, q);
+    if status != 0 {
+        return Answer { status, value: 0 };
     }
     Answer {
         status: 0,

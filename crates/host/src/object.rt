@@ -24,7 +24,7 @@ pub extern "C" fn scopes_allocate(
     ensures { λ r. ⌜ Done (r .status) (r .value) (now (words .exit)) (now (bytes .entry)) (calls.outcomeOf (stateOf (now (words .entry)) (now (bytes .entry))) (memoryOf (now (permanent .entry)) (now (scratch .entry)) (now (map .entry))) (calls.allocate t slots data_words)) ⌝ }
     ensures { λ r. ⌜ Written (now (permanent .exit)) (now (scratch .exit)) (now (map .exit)) (calls.outcomeOf (stateOf (now (words .entry)) (now (bytes .entry))) (memoryOf (now (permanent .entry)) (now (scratch .entry)) (now (map .entry))) (calls.allocate t slots data_words)) ⌝ }
 {
-    objects::allocate(words, bytes, permanent, scratch, map, t, slots, data_words)
+    allocation::allocate(words, bytes, permanent, scratch, map, t, slots, data_words)
 }
 
 // Op 07: a reference to a target, or null, is stored in a slot of an object.
@@ -44,7 +44,7 @@ pub extern "C" fn scopes_store(
     ensures { λ r. ⌜ Told (r .status) (r .value) (stateOf (now (words .entry)) (now (bytes .entry))) (calls.outcomeOf (stateOf (now (words .entry)) (now (bytes .entry))) (memoryOf (now (permanent .entry)) (now (scratch .entry)) (now (map .entry))) (calls.store t object slot target)) ⌝ }
     ensures { λ r. ⌜ Written (now (permanent .exit)) (now (scratch .exit)) (now (map .entry)) (calls.outcomeOf (stateOf (now (words .entry)) (now (bytes .entry))) (memoryOf (now (permanent .entry)) (now (scratch .entry)) (now (map .entry))) (calls.store t object slot target)) ⌝ }
 {
-    access::store(
+    references::store(
         words,
         bytes,
         permanent,
@@ -72,7 +72,7 @@ pub extern "C" fn scopes_load(
     requires { ⌜ Ready (now words) (now bytes) ⌝ }
     ensures { λ r. ⌜ Told (r .status) (r .value) (stateOf (now (words .entry)) (now (bytes .entry))) (calls.outcomeOf (stateOf (now (words .entry)) (now (bytes .entry))) (memoryOf (now (permanent .entry)) (now (scratch .entry)) (now (map .entry))) (calls.load t object slot)) ⌝ }
 {
-    access::load(words, bytes, permanent, scratch, map, t, object, slot)
+    references::load(words, bytes, permanent, scratch, map, t, object, slot)
 }
 
 // Op 09: a data word of an object is written.

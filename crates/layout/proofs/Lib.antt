@@ -1,3 +1,2 @@
 -- The lemmas that several proofs share.
 pub mod Shifts
-pub mod Table

@@ -3,8 +3,5 @@ pub mod Choice
 pub mod Handle
 pub mod Header
 pub mod HandleLaws
-pub mod Rights
-pub mod Display
-pub mod DisplayLaws
 pub mod Stack
 pub mod StackLaws

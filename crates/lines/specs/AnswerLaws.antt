@@ -6,22 +6,10 @@ use Prim.Native.Nat.{ℕ, zero, suc, _+_, _-_, _/_, _%_, _^_, _≤_, _<_}
 use native.Mathlib.Nat.{add-zero, pow-suc, div-div-eq-div-mul}
 use native.Mathlib.Omega.{arith}
 use lib.ListN.{length, set, length-append}
-use lib.Seq.{sets, set-comm}
-use Rattle.tables.specs.Cut.{put, length-put}
+use Rattle.tables.specs.Cut.{put, length-put, put-before}
 use Rattle.lines.specs.Answers.{digitOf, digitsOf, answerOf}
 
 -- ---- runs
-
--- a store before a run
-set-sets : (s l : List ℕ) (i j a : ℕ) → i < j → set (sets l j s) i a ≡ sets (set l i a) j s
-set-sets [] l i j a h = refl
-set-sets (b ∷ s) l i j a h =
-    set-sets s (set l j b) i (suc j) a (omega arith)
-    ∙ ap (λ (m : List ℕ). sets m (suc j) s) (set-comm l j i b a (λ e. omega arith))
-
-pub put-before : (l : List ℕ) (i a : ℕ) (s : List ℕ) → set (put l (suc i) s) i a ≡ put l i (a ∷ s)
-unfolding put
-put-before l i a s = set-sets s l i (suc i) a (omega arith)
 
 -- a run after a run
 pub put-put : (s l : List ℕ) (i : ℕ) (t : List ℕ) → put (put l i s) (i + length s) t ≡ put l i (s ++ t)

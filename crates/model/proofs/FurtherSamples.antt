@@ -1,4 +1,5 @@
--- What frames cannot reach, by samples of the definitions: other lengths, the last generation, the shown part, a refused set-up.
+-- What frames cannot reach, by samples of the definitions: other lengths, the last generation, the shown part, a refused set-up. And two
+-- refusals that meet in one call.
 -- Assumes nothing.
 use Prim.Native.Nat.{ℕ}
 use mathlib.Core.List.{List, [], _∷_, map}
@@ -8,8 +9,8 @@ use Rattle.layout.specs.Choice.{refuse}
 use Rattle.layout.specs.Handle.{handleOf, offsetOf, areaOf, generationOf}
 use Rattle.layout.specs.Header.{headerOf, slotsOf, dataOf}
 use Rattle.bitmap.specs.Bitmap.{bitAt, withBit, withoutBit, cleared}
-use Rattle.layout.specs.Rights.{classOf, rightsRows, rightDigit, allows}
-use Rattle.layout.specs.Display.{rowHolds}
+use Rattle.rights.specs.Rights.{classOf, rightsRows, rightDigit, allows}
+use Rattle.display.specs.Display.{rowHolds}
 use Rattle.layout.specs.Stack.{down}
 use Rattle.model.specs.State.{Memory, withArea, withRow, withThread, withTaken, stackOf, innermost, isMade, displayHolds, withStore, State}
 use Rattle.model.specs.SetUp.{setUpStatus, firstState, setUpState}
@@ -19,7 +20,7 @@ use Rattle.model.specs.Scopes.{makeStatus, makeState, otherParent, worn,
 use Rattle.model.specs.Objects.{allocateStatus, allocateState, filled, objectWords, objectBits, allocateMemory, allocateValue}
 use Rattle.model.specs.References.{mayRefer, storeAfter, slotStatus, referenceStatus, storeStatus, loadStatus}
 use Rattle.model.specs.Data.{dataStatus, viewStatus, viewWords}
-use Rattle.model.specs.Calls.{Call, start, make, enter, allocate, store, outcomeOf, write, read, viewed}
+use Rattle.model.specs.Calls.{Call, start, end, make, enter, exit, allocate, store, load, outcomeOf, write, read, viewed}
 use Rattle.model.specs.Run.{run, World, kept, step, begin, Element}
 
 -- 4 words each of heap and immortal, 16 of scratch
@@ -44,6 +45,10 @@ next w c = outcomeOf (w .state) (w .memory) c .reply .status
 -- a real-time thread in scope 2, with an object of 1 slot and 2 data words, of which the first holds 7
 used : World
 used = after (start 0 2 ∷ make 0 2 8 ∷ enter 0 2 ∷ allocate 0 1 2 ∷ write 0 1081344 0 7 ∷ [])
+
+-- a real-time thread's heap object of 1 slot and 1 data word, and a no-heap thread
+shared : World
+shared = after (start 0 2 ∷ allocate 0 1 1 ∷ start 1 3 ∷ [])
 
 -- a state in which scope 2 is not open and has the last generation
 worn-out : World
@@ -70,6 +75,8 @@ pub table : List (List ℕ)
 table =
     -- refusal 1: another length is refused whatever else is wrong, and nothing changes
     (1 ∷ outcomeOf (used .state) short (start 0 2) .reply .status ∷ outcomeOf (used .state) short (read 9 0 0) .reply .status ∷ [])
+    -- two refusals meet, and the first of the row counts: 1 and 11 in op 02, 2 and 11 in op 05, 5 and 14 in ops 08 and 09, 13 and 5 in op 0a
+    ∷ (outcomeOf (used .state) short (end 0) .reply .status ∷ next used (exit 5) ∷ next shared (load 1 1048576 1) ∷ next shared (write 1 1048576 1 9) ∷ next shared (read 1 1 0) ∷ [])
     -- refusal 17
     ∷ (17 ∷ next worn-out (enter 0 2) ∷ [])
     -- the shown part: exactly the data words; refused, a part of length 0, and the status beside it
@@ -82,11 +89,12 @@ table =
 
 pub further : table
     ≡ (1 ∷ 1 ∷ 1 ∷ [])
+    ∷ (1 ∷ 2 ∷ 5 ∷ 5 ∷ 13 ∷ [])
     ∷ (17 ∷ 17 ∷ [])
     ∷ (7 ∷ 0 ∷ [])
     ∷ []
     ∷ (0 ∷ 2 ∷ 13 ∷ [])
     ∷ (1 ∷ 0 ∷ 8 ∷ 12 ∷ [])
     ∷ []
-unfolding lent short calls after next used worn-out refused none without table run handleOf offsetOf areaOf generationOf headerOf slotsOf dataOf refuse bitAt withBit withoutBit cleared classOf rightsRows rightDigit allows rowHolds down withArea withRow withThread withTaken stackOf innermost isMade displayHolds withStore setUpStatus firstState setUpState fits admit hasRight live isObject isReference useStatus startStatus startState endStatus endState makeStatus makeState otherParent worn enterStatus enteredArea pushed enterState enterValue exitStatus leftArea popped exitState exitValue allocateStatus allocateState filled objectWords objectBits allocateMemory allocateValue mayRefer storeAfter slotStatus referenceStatus storeStatus loadStatus dataStatus viewStatus viewWords outcomeOf step begin
+unfolding lent short calls after next used shared worn-out refused none without table run handleOf offsetOf areaOf generationOf headerOf slotsOf dataOf refuse bitAt withBit withoutBit cleared classOf rightsRows rightDigit allows rowHolds down withArea withRow withThread withTaken stackOf innermost isMade displayHolds withStore setUpStatus firstState setUpState fits admit hasRight live isObject isReference useStatus startStatus startState endStatus endState makeStatus makeState otherParent worn enterStatus enteredArea pushed enterState enterValue exitStatus leftArea popped exitState exitValue allocateStatus allocateState filled objectWords objectBits allocateMemory allocateValue mayRefer storeAfter slotStatus referenceStatus storeStatus loadStatus dataStatus viewStatus viewWords outcomeOf step begin
 further = refl

@@ -8,8 +8,8 @@ use Rattle.layout.specs.Choice.{refuse}
 use Rattle.layout.specs.Handle.{handleOf, offsetOf, areaOf, generationOf}
 use Rattle.layout.specs.Header.{headerOf, slotsOf, dataOf}
 use Rattle.bitmap.specs.Bitmap.{bitAt, withBit, withoutBit, cleared}
-use Rattle.layout.specs.Rights.{classOf, rightsRows, rightDigit, allows}
-use Rattle.layout.specs.Display.{rowHolds}
+use Rattle.rights.specs.Rights.{classOf, rightsRows, rightDigit, allows}
+use Rattle.display.specs.Display.{rowHolds}
 use Rattle.layout.specs.Stack.{down}
 use Rattle.model.specs.State.{Memory, withArea, withRow, withThread, withTaken, stackOf, innermost, isMade, displayHolds, withStore}
 use Rattle.model.specs.SetUp.{setUpStatus, firstState, setUpState}

@@ -8,9 +8,9 @@ use Rattle.layout.specs.Choice.{refuse}
 use Rattle.layout.specs.Handle.{null, offsetOf, areaOf, generationOf}
 use Rattle.layout.specs.Header.{slotsOf, dataOf}
 use Rattle.bitmap.specs.Bitmap.{bitAt}
-use Rattle.layout.specs.Rights.{classOf, allows}
-use Rattle.layout.specs.declared.rights.Right.{Right}
-use Rattle.layout.specs.declared.rights.Right.the-variants.{Use}
+use Rattle.rights.specs.Rights.{classOf, allows}
+use Rattle.rights.specs.declared.Right.{Right}
+use Rattle.rights.specs.declared.Right.the-variants.{Use}
 use Rattle.model.specs.State.{State, Memory, areaAt, threadAt, isOpen, wordAt, bitIndex}
 
 -- "Every later call compares the three lengths."

@@ -9,7 +9,7 @@ use Rattle.layout.specs.Choice.{refuse}
 use Rattle.layout.specs.Handle.{handleOf}
 use Rattle.layout.specs.Header.{headerOf}
 use Rattle.bitmap.specs.Bitmap.{withBit, cleared}
-use Rattle.layout.specs.declared.rights.Right.the-variants.{Allocate}
+use Rattle.rights.specs.declared.Right.the-variants.{Allocate}
 use Rattle.model.specs.declared.Area.{Area}
 use Rattle.model.specs.State.{State, Memory, areaAt, withArea, stackAt, current, storeOf, withStore, bitIndex}
 use Rattle.model.specs.Checks.{admit, hasRight}

@@ -7,7 +7,7 @@ use lib.ListN.{getD, set}
 use Rattle.layout.specs.Choice.{refuse}
 use Rattle.layout.specs.Handle.{null, offsetOf, areaOf}
 use Rattle.layout.specs.Header.{slotsOf}
-use Rattle.layout.specs.declared.rights.Right.the-variants.{Refer}
+use Rattle.rights.specs.declared.Right.the-variants.{Refer}
 use Rattle.model.specs.State.{State, Memory, areaAt, storeOf, withStore, displayHolds}
 use Rattle.model.specs.Checks.{hasRight, headerAt, isReference, useStatus}
 

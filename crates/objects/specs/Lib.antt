@@ -4,4 +4,3 @@ pub mod Places
 pub mod Steps
 pub mod Stores
 pub mod Rights
-pub mod Allocation

@@ -5,9 +5,9 @@ use mathlib.Core.Bool.{Bool}
 use mathlib.Core.List.{List}
 use mathlib.Core.Path.{_≡_, sym}
 use lib.ListN.{getD}
-use Rattle.layout.specs.Rights.{classOf, allows}
-use Rattle.layout.specs.declared.rights.Class.{Class}
-use Rattle.layout.specs.declared.rights.Right.{Right}
+use Rattle.rights.specs.Rights.{classOf, allows}
+use Rattle.rights.specs.declared.Class.{Class}
+use Rattle.rights.specs.declared.Right.{Right}
 use Rattle.model.specs.Checks.{hasRight}
 use Rattle.tables.specs.Decode.{stateOf}
 use Rattle.tables.specs.Laws.{kind-read}

@@ -40,9 +40,9 @@ pub fn carry_out(
         Op::Make => areas::make::make(words, bytes, permanent, scratch, map, t, q, r),
         Op::Enter => entry::enter(words, bytes, permanent, scratch, map, t, q),
         Op::Exit => areas::exit::exit(words, bytes, permanent, scratch, map, t),
-        Op::Allocate => objects::allocate(words, bytes, permanent, scratch, map, t, q, r),
-        Op::Store => access::store(words, bytes, permanent, scratch, map, t, p, q, r),
-        Op::Load => access::load(words, bytes, permanent, scratch, map, t, p, q),
+        Op::Allocate => allocation::allocate(words, bytes, permanent, scratch, map, t, q, r),
+        Op::Store => references::store(words, bytes, permanent, scratch, map, t, p, q, r),
+        Op::Load => references::load(words, bytes, permanent, scratch, map, t, p, q),
         Op::Write => access::write(words, bytes, permanent, scratch, map, t, p, q, r),
         Op::Read => access::read(words, bytes, permanent, scratch, map, t, p, q)
     }

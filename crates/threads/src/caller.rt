@@ -40,10 +40,10 @@ pub fn check_caller(
         return 1;
     }
     if 16 <= t {
-        return 2;
+        return 2; // above 15
     }
-    if tables::kind_at(words, t as usize) == 0 {
-        return 2;
+    if stacks::kind_at(words, t as usize) == 0 {
+        return 2; // not started
     }
     0
 }

@@ -11,11 +11,11 @@ pub fn current_area(words: &[u64; 548], bytes: &[u8; 3072], t: usize) -> u8
     requires { ⌜ Ready (now words) (now bytes) × (t < 16) ⌝ }
     ensures { λ r. ⌜ r ≡ current (stackAt (stateOf (now (words .entry)) (now (bytes .entry))) t) ⌝ }
 {
-    let len = tables::len_at(words, t) as usize;
+    let len = stacks::len_at(words, t) as usize;
     if len == 0 {
         return 0;
     }
-    tables::entry_at(bytes, t, Place(len - 1))
+    stacks::entry_at(bytes, t, Place(len - 1))
 }
 
 // The innermost scope, or 0 where there is none: one look (source 004, Algorithm 6).
@@ -23,9 +23,9 @@ pub fn innermost_scope(words: &[u64; 548], bytes: &[u8; 3072], t: usize) -> u8
     requires { ⌜ Ready (now words) (now bytes) × (t < 16) ⌝ }
     ensures { λ r. ⌜ r ≡ innermost (stackAt (stateOf (now (words .entry)) (now (bytes .entry))) t) ⌝ }
 {
-    let len = tables::len_at(words, t) as usize;
-    if len == 0 {
+    let entries = stacks::len_at(words, t) as usize;
+    if entries == 0 {
         return 0;
     }
-    tables::inner_at(bytes, t, Place(len - 1))
+    stacks::inner_at(bytes, t, Place(entries - 1))
 }

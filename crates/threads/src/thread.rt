@@ -27,7 +27,7 @@ fn check_start(
     if 16 <= t {
         return 2;
     }
-    if tables::kind_at(words, t as usize) != 0 {
+    if stacks::kind_at(words, t as usize) != 0 {
         return 3;
     }
     if kind == 0 {
@@ -51,14 +51,11 @@ pub fn start(
     requires { ⌜ Ready (now words) (now bytes) ⌝ }
     ensures { λ r. ⌜ Done (r .status) (r .value) (now (words .exit)) (now (bytes .entry)) (calls.outcomeOf (stateOf (now (words .entry)) (now (bytes .entry))) (memoryOf (now (permanent .entry)) (now (scratch .entry)) (now (map .entry))) (calls.start t kind)) ⌝ }
 {
-    let n = check_start(words, bytes, permanent, scratch, map, t, kind);
-    if n == 0 {
-        tables::put_kind(words, t as usize, kind);
+    let status = check_start(words, bytes, permanent, scratch, map, t, kind);
+    if status == 0 {
+        stacks::put_kind(words, t as usize, kind);
     }
-    Answer {
-        status: n,
-        value: 0,
-    }
+    Answer { status, value: 0 }
 }
 
 // ---- op 02, end thread
@@ -73,11 +70,11 @@ fn check_end(
 ) -> u64
     ensures { λ r. ⌜ r ≡ endStatus (stateOf (now (words .entry)) (now (bytes .entry))) (memoryOf (now (permanent .entry)) (now (scratch .entry)) (now (map .entry))) t ⌝ }
 {
-    let n = caller::check_caller(words, bytes, permanent, scratch, map, t);
-    if n != 0 {
-        return n;
+    let refusal = caller::check_caller(words, bytes, permanent, scratch, map, t);
+    if refusal != 0 {
+        return refusal;
     }
-    if 0 < tables::len_at(words, t as usize) {
+    if 0 < stacks::len_at(words, t as usize) {
         return 11;
     }
     0
@@ -94,12 +91,12 @@ pub fn end(
     requires { ⌜ Ready (now words) (now bytes) ⌝ }
     ensures { λ r. ⌜ Done (r .status) (r .value) (now (words .exit)) (now (bytes .entry)) (calls.outcomeOf (stateOf (now (words .entry)) (now (bytes .entry))) (memoryOf (now (permanent .entry)) (now (scratch .entry)) (now (map .entry))) (calls.end t)) ⌝ }
 {
-    let n = check_end(words, bytes, permanent, scratch, map, t);
-    if n == 0 {
-        tables::put_kind(words, t as usize, 0);
+    let refusal = check_end(words, bytes, permanent, scratch, map, t);
+    if refusal == 0 {
+        stacks::put_kind(words, t as usize, 0);
     }
     Answer {
-        status: n,
+        status: refusal,
         value: 0,
     }
 }

@@ -4,9 +4,9 @@ use mathlib.Core.Bool.{true, _||_}
 use lib.Dec.{ltb}
 use borrow.Author.Tests.{not-true, not-false}
 use borrow.Author.Needs.{needs}
-use Rattle.layout.specs.Rights.{classOf, allows}
-use Rattle.layout.specs.declared.rights.Class.{Class}
-use Rattle.layout.specs.declared.rights.Right.the-variants.{Enter}
+use Rattle.rights.specs.Rights.{classOf, allows}
+use Rattle.rights.specs.declared.Class.{Class}
+use Rattle.rights.specs.declared.Right.the-variants.{Enter}
 use Rattle.entry.specs.Enter.{not-made, no-right, full, standing, other-parent, same-parent, last-generation, fresh-generation}
 use Rattle.entry.proofs.check_entry.Statement.{statement}
 use Rattle.entry.proofs.check_entry.Tie as tie

@@ -2,7 +2,7 @@
 use mathlib.Core.Path.{sym}
 use borrow.Author.Needs.{needs}
 use denote.Ref.{now}
-use Rattle.layout.specs.declared.rights.Right.the-variants.{Use}
+use Rattle.rights.specs.declared.Right.the-variants.{Use}
 use Rattle.objects.specs.Rights.{right-read}
 use Rattle.access.proofs.spot.may_use.Statement.{statement}
 use Rattle.access.proofs.spot.may_use.Tie as tie

@@ -5,7 +5,7 @@ use borrow.Author.Tests.{not-true, not-false}
 use denote.Ref.{now}
 use native.Mathlib.Omega.{arith}
 use Prim.Native.Nat.{_+_}
-use Rattle.layout.specs.declared.rights.Right.the-variants.{Use}
+use Rattle.rights.specs.declared.Right.the-variants.{Use}
 use Rattle.model.specs.State.{State, Memory}
 use Rattle.model.specs.Checks.{hasRight, useStatus}
 use Rattle.model.specs.Data.{dataStatus}

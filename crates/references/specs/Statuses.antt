@@ -1,0 +1,140 @@
+-- One law for each way that the checks of ops 07 and 08 end.
+-- Assumes nothing.
+use Prim.Native.Nat.{ℕ, _≤_, _<_}
+use mathlib.Core.Bool.{true, false, not, _||_, true≢false}
+use mathlib.Core.List.{List}
+use mathlib.Core.Path.{_≡_, sym, ap, _∙_}
+use mathlib.Core.Logic.{_≢_}
+use lib.Dec.{eqb, leb}
+use borrow.Author.Tests.{eqb-true, le-leb, lt-leb, lt-ltb, le-ltb, eq-eqb, ne-eqb}
+use Rattle.layout.specs.Choice.{refuse, cases, hit, skip}
+use Rattle.layout.specs.Handle.{null, areaOf}
+use Rattle.layout.specs.Header.{slotsOf}
+use Rattle.display.specs.Display.{rowHolds}
+use Rattle.rights.specs.declared.Right.the-variants.{Refer}
+use Rattle.model.specs.declared.Area.{Area}
+use Rattle.model.specs.State.{State, Memory, areaAt, displayHolds}
+use Rattle.model.specs.Checks.{hasRight, headerAt, isReference, useStatus}
+use Rattle.model.specs.References.{mayRefer, wordAfter, slotStatus, referenceStatus, storeStatus, loadStatus}
+use Rattle.tables.specs.Decode as decode
+use Rattle.tables.specs.Laws.{area-read, row-read}
+use Rattle.objects.specs.declared.find.Object.{Object}
+use Rattle.objects.specs.declared.find.Found.the-variants.{At, Nothing}
+use Rattle.objects.specs.Found.{objectOf, foundOf}
+use Rattle.objects.specs.Places.{at-live, nothing-live}
+use Rattle.access.specs.Chains.{Chain, chain-none, chain-more}
+use Rattle.access.specs.Statuses.{object-slots, found-area, use-chain}
+
+-- ---- refusal 14: a slot; n is what check_use answers
+
+module _ (s : State) (m : Memory) (t p q : ℕ) where
+  pub slot-chain : Chain (slotStatus s m t p q)
+  unfolding slotStatus
+  slot-chain = chain-more (useStatus s m t p) (leb (slotsOf (headerAt s m p)) q) 13 (use-chain s m t p)
+
+  pub slot-not-used : {n : ℕ} → n ≡ useStatus s m t p 0 → n ≢ 0 → n ≡ slotStatus s m t p q 0
+  unfolding slotStatus
+  slot-not-used e h = e ∙ sym (use-chain s m t p .stops (λ z. h (e ∙ z)) _)
+
+  module _ (z : useStatus s m t p 0 ≡ 0) (o : Object) (e : o ≡ objectOf s m p) where
+    slots-is : o .slots ≡ slotsOf (headerAt s m p)
+    slots-is = ap (λ (x : Object). x .slots) e ∙ object-slots s m p
+
+    pub slot-past : o .slots ≤ q → 14 ≡ slotStatus s m t p q 0
+    unfolding slotStatus
+    slot-past h = sym (use-chain s m t p .passes z _ ∙ rw (← slots-is) (hit (leb (o .slots) q) 14 0 (le-leb (o .slots) q h)))
+
+    pub slot-in : q < o .slots → 0 ≡ slotStatus s m t p q 0
+    unfolding slotStatus
+    slot-in h = sym (use-chain s m t p .passes z _ ∙ rw (← slots-is) (skip (leb (o .slots) q) 14 0 (lt-leb (o .slots) q h)))
+
+-- ---- refusals 15 and 5: a target or a loaded word
+
+module _ (s : State) (m : Memory) (t x : ℕ) where
+  pub reference-chain : Chain (referenceStatus s m t x)
+  unfolding referenceStatus
+  reference-chain =
+      chain-more (λ (n : ℕ). refuse (not (isReference s m x)) 15 n) (not (eqb x null || hasRight s t Refer (areaOf x))) 4
+      (chain-more (λ (n : ℕ). n) (not (isReference s m x)) 14 chain-none)
+
+  pub reference-null : x ≡ 0 → 0 ≡ referenceStatus s m t x 0
+  unfolding referenceStatus isReference refuse
+  reference-null e = rw (eq-eqb x 0 e)
+
+  module _ (n : x ≢ 0) where
+    pub reference-nothing : Nothing ≡ foundOf s m x → 15 ≡ referenceStatus s m t x 0
+    unfolding referenceStatus isReference refuse
+    reference-nothing e = rw (ne-eqb x 0 n, nothing-live s m x e)
+
+    module _ (o : Object) (e : At o ≡ foundOf s m x) where
+      pub reference-no-right : hasRight s t Refer (o .area) ≡ false → 5 ≡ referenceStatus s m t x 0
+      unfolding referenceStatus isReference refuse
+      reference-no-right r = rw (ne-eqb x 0 n, at-live s m x o e .0, ← found-area s m x o e, r)
+
+      pub reference-right : hasRight s t Refer (o .area) ≡ true → 0 ≡ referenceStatus s m t x 0
+      unfolding referenceStatus isReference refuse
+      reference-right r = rw (ne-eqb x 0 n, at-live s m x o e .0, ← found-area s m x o e, r)
+
+-- ---- refusal 16: the assignment rule, where x and y are the records of the areas of the target and of the object
+
+module _ (w b : List ℕ) (object target : ℕ) where
+  pub may-plain : target < 2 → true ≡ mayRefer (decode.stateOf w b) object target
+  unfolding mayRefer
+  may-plain h = rw (lt-ltb target 2 h)
+
+  module _ (h : 2 ≤ target) (ho : object < 64) (ht : target < 64) (x y : Area) (ex : x ≡ decode.areaOf w target) (ey : y ≡ decode.areaOf w object) where
+    target-is : areaAt (decode.stateOf w b) target ≡ x
+    target-is = area-read w b target ht ∙ sym ex
+
+    object-is : areaAt (decode.stateOf w b) object ≡ y
+    object-is = area-read w b object ho ∙ sym ey
+
+    pub may-deeper : y .depth < x .depth → false ≡ mayRefer (decode.stateOf w b) object target
+    unfolding mayRefer displayHolds
+    may-deeper k = rw (le-ltb target 2 h, target-is, object-is, lt-leb (x .depth) (y .depth) k)
+
+    pub may-look : x .depth ≤ y .depth → rowHolds (decode.rowOf b object) (x .depth) target ≡ mayRefer (decode.stateOf w b) object target
+    unfolding mayRefer displayHolds
+    may-look k = rw (le-ltb target 2 h, target-is, object-is, le-leb (x .depth) (y .depth) k, row-read w b object ho)
+
+-- null's area is the heap
+null-may : (s : State) (object r : ℕ) → r ≡ null → true ≡ mayRefer s object (areaOf r)
+unfolding mayRefer areaOf
+null-may s object r e = rw e
+
+-- ---- ops 07 and 08; n is what check_slot or check_reference answers
+
+module _ (s : State) (m : Memory) (t p q : ℕ) where
+  module _ (r : ℕ) where
+    pub store-no-slot : {n : ℕ} → n ≡ slotStatus s m t p q 0 → n ≢ 0 → n ≡ storeStatus s m t p q r
+    unfolding storeStatus
+    store-no-slot e h = e ∙ sym (slot-chain s m t p q .stops (λ z. h (e ∙ z)) _)
+
+    module _ (z : slotStatus s m t p q 0 ≡ 0) where
+      pub store-no-reference : {n : ℕ} → n ≡ referenceStatus s m t r 0 → n ≢ 0 → n ≡ storeStatus s m t p q r
+      unfolding storeStatus
+      store-no-reference e h = e ∙ sym (slot-chain s m t p q .passes z _ ∙ reference-chain s m t r .stops (λ y. h (e ∙ y)) _)
+
+      module _ (y : referenceStatus s m t r 0 ≡ 0) where
+        last : (rest : ℕ) → slotStatus s m t p q (referenceStatus s m t r rest) ≡ rest
+        last rest = slot-chain s m t p q .passes z _ ∙ reference-chain s m t r .passes y rest
+
+        pub store-forbidden : mayRefer s (areaOf p) (areaOf r) ≡ false → 16 ≡ storeStatus s m t p q r
+        unfolding storeStatus
+        store-forbidden e = sym (last _ ∙ hit (not (eqb r null || mayRefer s (areaOf p) (areaOf r))) 16 0
+            (cases (eqb r null)
+            (λ k. absurd (true≢false (null-may s (areaOf p) r (eqb-true r null k) ∙ e)))
+            (λ k. rw (k, e))))
+
+        pub store-allowed : mayRefer s (areaOf p) (areaOf r) ≡ true → 0 ≡ storeStatus s m t p q r
+        unfolding storeStatus
+        store-allowed e = sym (last _ ∙ skip (not (eqb r null || mayRefer s (areaOf p) (areaOf r))) 16 0
+            (cases (eqb r null) (λ k. rw k) (λ k. rw (k, e))))
+
+  pub load-no-slot : {n : ℕ} → n ≡ slotStatus s m t p q 0 → n ≢ 0 → n ≡ loadStatus s m t p q
+  unfolding loadStatus
+  load-no-slot e h = e ∙ sym (slot-chain s m t p q .stops (λ z. h (e ∙ z)) _)
+
+  pub load-slot : slotStatus s m t p q 0 ≡ 0 → {n x : ℕ} → x ≡ wordAfter s m p q → n ≡ referenceStatus s m t x 0 → n ≡ loadStatus s m t p q
+  unfolding loadStatus
+  load-slot z f e = e ∙ ap (λ (x : ℕ). referenceStatus s m t x 0) f ∙ sym (slot-chain s m t p q .passes z _)

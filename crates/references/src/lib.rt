@@ -1,0 +1,177 @@
+// Ops 07 and 08: a reference is stored in a slot, or loaded from one.
+use access::Spot;
+use display::Depth;
+use layout::handle;
+use layout::stack::Answer;
+use objects::Found;
+use rights::Right;
+ghost use mathlib.Core.Path.{_≡_};
+ghost use mathlib.Core.Bool.{true};
+ghost use Prim.Native.Nat.{_<_};
+ghost use Rattle.model.specs.Checks.{fits};
+ghost use Rattle.model.specs.References.{mayRefer, slotStatus, referenceStatus, storeStatus};
+ghost use Rattle.model.specs.Calls as calls;
+ghost use Rattle.tables.specs.Decode.{stateOf};
+ghost use Rattle.tables.specs.Contract.{memoryOf, Ready, Told, Written};
+ghost use Rattle.objects.specs.Found.{objectOf};
+ghost use Rattle.access.specs.Spots.{spotOf};
+
+// The assignment rule, for the areas of an object and of a target: one look into the display of the
+// object's area (source 004, Algorithm 9).
+fn may_refer(words: &[u64; 548], bytes: &[u8; 3072], object: u64, target: u64) -> bool
+    requires { ⌜ Ready (now words) (now bytes) × (object < 64) × (target < 64) ⌝ }
+    ensures { λ r. ⌜ r ≡ mayRefer (stateOf (now (words .entry)) (now (bytes .entry))) object target ⌝ }
+{
+    if target < 2 {
+        return true;
+    }
+    let depth = tables::area_at(words, target as usize).depth;
+    let deepest = tables::area_at(words, object as usize).depth;
+    if deepest < depth {
+        return false;
+    }
+    rows::row_holds(bytes, object as usize, Depth(depth as usize), target as u8)
+}
+
+// Refusals 1, 2, 13, 5 and 14: an object and one of its slots.
+fn check_slot(
+    words: &[u64; 548],
+    bytes: &[u8; 3072],
+    permanent: &[u64],
+    scratch: &[u64],
+    map: &[u64],
+    t: u64,
+    p: u64,
+    q: u64,
+) -> Spot
+    requires { ⌜ Ready (now words) (now bytes) ⌝ }
+    ensures { λ r. ⌜ r ≡ spotOf (objectOf (stateOf (now (words .entry)) (now (bytes .entry))) (memoryOf (now (permanent .entry)) (now (scratch .entry)) (now (map .entry))) p) (slotStatus (stateOf (now (words .entry)) (now (bytes .entry))) (memoryOf (now (permanent .entry)) (now (scratch .entry)) (now (map .entry))) t p q 0) ⌝ }
+{
+    match access::check_use(words, bytes, permanent, scratch, map, t, p) {
+        Spot::Refused(n) => Spot::Refused(n),
+        Spot::In(o) => {
+            if o.slots <= q {
+                return Spot::Refused(14);
+            }
+            Spot::In(o)
+        }
+    }
+}
+
+// Refusals 15 and 5: a target or a loaded word. Null always passes.
+fn check_reference(
+    words: &[u64; 548],
+    bytes: &[u8; 3072],
+    permanent: &[u64],
+    scratch: &[u64],
+    map: &[u64],
+    t: u64,
+    x: u64,
+) -> u64
+    requires { ⌜ Ready (now words) (now bytes) × (t < 16) × (fits (stateOf (now words) (now bytes)) (memoryOf (now permanent) (now scratch) (now map)) ≡ true) ⌝ }
+    ensures { λ r. ⌜ r ≡ referenceStatus (stateOf (now (words .entry)) (now (bytes .entry))) (memoryOf (now (permanent .entry)) (now (scratch .entry)) (now (map .entry))) t x 0 ⌝ }
+{
+    if x == 0 {
+        return 0;
+    }
+    let Found::At(o) = objects::lookup(words, bytes, permanent, scratch, map, x) else {
+        return 15;
+    };
+    let kind = stacks::kind_at(words, t as usize);
+    if !rights::allowed(kind, rights::class_of(o.area), Right::Refer) {
+        return 5;
+    }
+    0
+}
+
+// ---- op 07, store reference
+
+// Its refusals. Null's area is the heap, so the assignment rule lets it pass.
+fn check_store(
+    words: &[u64; 548],
+    bytes: &[u8; 3072],
+    permanent: &[u64],
+    scratch: &[u64],
+    map: &[u64],
+    t: u64,
+    p: u64,
+    q: u64,
+    target: u64,
+) -> Spot
+    requires { ⌜ Ready (now words) (now bytes) ⌝ }
+    ensures { λ r. ⌜ r ≡ spotOf (objectOf (stateOf (now (words .entry)) (now (bytes .entry))) (memoryOf (now (permanent .entry)) (now (scratch .entry)) (now (map .entry))) p) (storeStatus (stateOf (now (words .entry)) (now (bytes .entry))) (memoryOf (now (permanent .entry)) (now (scratch .entry)) (now (map .entry))) t p q target) ⌝ }
+{
+    match check_slot(words, bytes, permanent, scratch, map, t, p, q) {
+        Spot::Refused(n) => Spot::Refused(n),
+        Spot::In(o) => {
+            let refusal = check_reference(words, bytes, permanent, scratch, map, t, target);
+            let may = may_refer(words, bytes, o.area, handle::area(target));
+            if refusal != 0 {
+                return Spot::Refused(refusal);
+            }
+            if !may {
+                return Spot::Refused(16);
+            }
+            Spot::In(o)
+        }
+    }
+}
+
+// Op 07: object p, slot q, target; the value is 0.
+pub fn store(
+    words: &[u64; 548],
+    bytes: &[u8; 3072],
+    permanent: &mut [u64],
+    scratch: &mut [u64],
+    map: &[u64],
+    t: u64,
+    p: u64,
+    q: u64,
+    target: u64,
+) -> Answer
+    requires { ⌜ Ready (now words) (now bytes) ⌝ }
+    ensures { λ r. ⌜ Told (r .status) (r .value) (stateOf (now (words .entry)) (now (bytes .entry))) (calls.outcomeOf (stateOf (now (words .entry)) (now (bytes .entry))) (memoryOf (now (permanent .entry)) (now (scratch .entry)) (now (map .entry))) (calls.store t p q target)) ⌝ }
+    ensures { λ r. ⌜ Written (now (permanent .exit)) (now (scratch .exit)) (now (map .entry)) (calls.outcomeOf (stateOf (now (words .entry)) (now (bytes .entry))) (memoryOf (now (permanent .entry)) (now (scratch .entry)) (now (map .entry))) (calls.store t p q target)) ⌝ }
+{
+    match check_store(words, bytes, permanent, scratch, map, t, p, q, target) {
+        Spot::Refused(status) => Answer { status, value: 0 },
+        Spot::In(o) => {
+            let at = o.at + 1 + q as usize;
+            access::put_word(permanent, scratch, o.area, at, target);
+            Answer {
+                status: 0,
+                value: 0,
+            }
+        }
+    }
+}
+
+// ---- op 08, load reference
+
+// Object p, slot q; the value is the stored word.
+pub fn load(
+    words: &[u64; 548],
+    bytes: &[u8; 3072],
+    permanent: &[u64],
+    scratch: &[u64],
+    map: &[u64],
+    t: u64,
+    p: u64,
+    q: u64,
+) -> Answer
+    requires { ⌜ Ready (now words) (now bytes) ⌝ }
+    ensures { λ r. ⌜ Told (r .status) (r .value) (stateOf (now (words .entry)) (now (bytes .entry))) (calls.outcomeOf (stateOf (now (words .entry)) (now (bytes .entry))) (memoryOf (now (permanent .entry)) (now (scratch .entry)) (now (map .entry))) (calls.load t p q)) ⌝ }
+{
+    match check_slot(words, bytes, permanent, scratch, map, t, p, q) {
+        Spot::Refused(status) => Answer { status, value: 0 },
+        Spot::In(o) => {
+            let from = o.at + 1 + q as usize;
+            let x = objects::word_at(permanent, scratch, o.area, from);
+            let status = check_reference(words, bytes, permanent, scratch, map, t, x);
+            if status != 0 {
+                return Answer { status, value: 0 };
+            }
+            Answer { status, value: x }
+        }
+    }
+}

@@ -1,0 +1,2 @@
+-- The lemmas that proofs share.
+pub mod Table

@@ -1,0 +1,2 @@
+-- The rights table: the definitions that the contracts cite.
+pub mod Rights

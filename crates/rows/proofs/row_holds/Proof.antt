@@ -1,0 +1,67 @@
+-- `row_holds` meets its contract: the part of the bytes has the row's elements.
+use denote.Ref.{now}
+use mathlib.Core.Bool.{Bool, true, false, _&&_}
+use mathlib.Core.List.{List}
+use mathlib.Core.Path.{_≡_, refl, sym, ap, _∙_}
+use Prim.Native.Nat.{ℕ, _+_, _-_, _*_, _<_, _≤_}
+use native.Mathlib.Omega.{arith}
+use borrow.Author.Needs.{needs}
+use borrow.Author.Tests.{ltb-true}
+use lib.Dec.{eqb, ltb}
+use lib.ListN.{getD, take, drop}
+use lib.Seq.{getD-take, getD-drop}
+use Rattle.layout.specs.Choice.{cases}
+use Rattle.display.specs.Display.{rowHolds}
+use Rattle.tables.specs.Cut.{getD-cut}
+use Rattle.tables.specs.Decode.{rowOf}
+use Rattle.rows.proofs.row_holds.Statement.{statement}
+use Rattle.rows.proofs.row_holds.Tie as tie
+
+-- a look at a depth sees one element of the row
+part-holds : (b : List ℕ) (a d x : ℕ) → d ≤ 32 → rowHolds (take 32 (drop (1024 + a * 32) b)) d x ≡ rowHolds (rowOf b a) d x
+unfolding rowHolds rowOf
+part-holds b a d x h =
+    cases (ltb 0 d)
+    (λ e. let k : d - 1 < 32 = omega (arith, ltb-true 0 d e) in
+    rw (e, getD-take 32 (drop (1024 + a * 32) b) (d - 1) 0 k, getD-drop (1024 + a * 32) b (d - 1) 0, getD-cut b (1024 + a * 32) 32 (d - 1) k))
+    (λ e. rw e)
+
+mul-at : tie.Need-mul-at
+mul-at c = search needs
+
+add-at : tie.Need-add-at
+add-at c = search needs
+
+add-holds : tie.Need-add-holds
+add-holds c = search needs
+
+sub-holds : tie.Need-sub-holds
+sub-holds c = search needs
+
+part-holds-start : tie.Need-part-holds-start
+part-holds-start c = search needs
+
+part-holds-end : tie.Need-part-holds-end
+part-holds-end c = search needs
+
+holds-requires : tie.Need-holds-requires
+holds-requires c κs = search needs
+
+returns : tie.Need-returns
+returns c =
+    let a = c .before .before .before .args in
+    let n : 1024 + a .b * 32 + 32 - (1024 + a .b * 32) ≡ 32 = omega arith in
+    (rw n at (c .holds .ensures)) ∙ part-holds (now (a .bytes)) (a .b) (a .depth .0) (a .area) (search needs)
+
+pub row-holds-spec : {M : Type 1} → statement M
+row-holds-spec =
+    tie.close
+    (tie.spec
+    mul-at
+    add-at
+    add-holds
+    sub-holds
+    part-holds-start
+    part-holds-end
+    holds-requires
+    returns)
