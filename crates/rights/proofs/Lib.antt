@@ -1,2 +1,2 @@
--- The lemmas that proofs share.
-pub mod Table
+-- What the proofs of the three classes share.
+pub mod Columns

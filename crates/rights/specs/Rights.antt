@@ -42,3 +42,7 @@ rightDigit kind class right = getD rightsRows ((kind - 1) * 3 + class) 0 / 2 ^ (
 unfoldable pub allows : ℕ → Class → Right → Bool
 allows kind class right =
     pick (eqb kind 0) false (pick (ltb 3 kind) false (eqb (rightDigit kind (classIndex class) (rightIndex right)) 1))
+
+-- the entry of a kind, of the entries of kinds 1, 2 and 3
+unfoldable pub ofKind : ℕ → ℕ → ℕ → ℕ → Bool
+ofKind kind a b c = pick (eqb kind 1) (eqb a 1) (pick (eqb kind 2) (eqb b 1) (pick (eqb kind 3) (eqb c 1) false))

@@ -1,7 +1,8 @@
 // The constant table of rights: 36 entries, read by kind, class of area and right.
 ghost use mathlib.Core.Path.{_≡_};
 ghost use Prim.Native.Nat.{_<_};
-ghost use Rattle.rights.specs.Rights.{classOf, classIndex, rightIndex, allows};
+ghost use Rattle.rights.specs.declared.Class.the-variants.{Heap, Immortal, Scope};
+ghost use Rattle.rights.specs.Rights.{classOf, allows, ofKind};
 
 // The classes of areas.
 pub enum Class {
@@ -72,26 +73,58 @@ pub fn class_of(area: u64) -> Class
     Class::Scope
 }
 
-fn class_index(class: Class) -> usize
-    ensures { λ n. ⌜ n ≡ classIndex class ⌝ }
-    ensures { λ n. ⌜ n < 3 ⌝ }
+// The entry of a kind, of the entries of the three kinds; another kind has no right.
+fn of_kind(kind: u64, ordinary: u8, real_time: u8, no_heap: u8) -> bool
+    ensures { λ r. ⌜ r ≡ ofKind kind ordinary «real_time» «no_heap» ⌝ }
 {
-    match class {
-        Class::Heap => 0,
-        Class::Immortal => 1,
-        Class::Scope => 2
+    if kind == 1 {
+        return ordinary == 1;
+    }
+    if kind == 2 {
+        return real_time == 1;
+    }
+    if kind == 3 {
+        return no_heap == 1;
+    }
+    false
+}
+
+// Rights by class. Every read is at a place that the compiler knows, so that no table is left in the
+// machine code: a place that is computed would have it written to the stack anew at each read.
+
+// In the heap.
+fn in_heap(kind: u64, right: Right) -> bool
+    ensures { λ r. ⌜ r ≡ allows kind Heap right ⌝ }
+{
+    match right {
+        Right::Enter => of_kind(kind, RIGHTS[0], RIGHTS[12], RIGHTS[24]),
+        Right::Allocate => of_kind(kind, RIGHTS[1], RIGHTS[13], RIGHTS[25]),
+        Right::Use => of_kind(kind, RIGHTS[2], RIGHTS[14], RIGHTS[26]),
+        Right::Refer => of_kind(kind, RIGHTS[3], RIGHTS[15], RIGHTS[27])
     }
 }
 
-fn right_index(right: Right) -> usize
-    ensures { λ n. ⌜ n ≡ rightIndex right ⌝ }
-    ensures { λ n. ⌜ n < 4 ⌝ }
+// In immortal memory.
+fn in_immortal(kind: u64, right: Right) -> bool
+    ensures { λ r. ⌜ r ≡ allows kind Immortal right ⌝ }
 {
     match right {
-        Right::Enter => 0,
-        Right::Allocate => 1,
-        Right::Use => 2,
-        Right::Refer => 3
+        Right::Enter => of_kind(kind, RIGHTS[4], RIGHTS[16], RIGHTS[28]),
+        Right::Allocate => of_kind(kind, RIGHTS[5], RIGHTS[17], RIGHTS[29]),
+        Right::Use => of_kind(kind, RIGHTS[6], RIGHTS[18], RIGHTS[30]),
+        Right::Refer => of_kind(kind, RIGHTS[7], RIGHTS[19], RIGHTS[31])
+    }
+}
+
+// In a scope.
+fn in_scope(kind: u64, right: Right) -> bool
+    ensures { λ r. ⌜ r ≡ allows kind Scope right ⌝ }
+{
+    match right {
+        Right::Enter => of_kind(kind, RIGHTS[8], RIGHTS[20], RIGHTS[32]),
+        Right::Allocate => of_kind(kind, RIGHTS[9], RIGHTS[21], RIGHTS[33]),
+        Right::Use => of_kind(kind, RIGHTS[10], RIGHTS[22], RIGHTS[34]),
+        Right::Refer => of_kind(kind, RIGHTS[11], RIGHTS[23], RIGHTS[35])
     }
 }
 
@@ -99,14 +132,9 @@ fn right_index(right: Right) -> usize
 pub fn allowed(kind: u64, class: Class, right: Right) -> bool
     ensures { λ r. ⌜ r ≡ allows kind class right ⌝ }
 {
-    if kind == 0 {
-        return false;
+    match class {
+        Class::Heap => in_heap(kind, right),
+        Class::Immortal => in_immortal(kind, right),
+        Class::Scope => in_scope(kind, right)
     }
-    if 3 < kind {
-        return false;
-    }
-    let row = (kind - 1) as usize;
-    let column = class_index(class);
-    let place = right_index(right);
-    RIGHTS[row * 12 + column * 4 + place] == 1
 }
