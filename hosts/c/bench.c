@@ -101,7 +101,7 @@ static void reference_into_emptied_sample(void)
     show("plotter reads the new points", scopes_read(LENT, PLOTTER, again, 0));
 }
 
-/* The sample opens under another parent: the display of its last turn is gone. */
+/* The sample opens under another parent: the display of its last generation is gone. */
 static void another_nesting(void)
 {
     title("An emptied scope nests anew");

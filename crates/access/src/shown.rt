@@ -99,10 +99,7 @@ pub fn view_status(
     ensures { λ r. ⌜ Told (r .status) (r .value) (stateOf (now (words .entry)) (now (bytes .entry))) (calls.outcomeOf (stateOf (now (words .entry)) (now (bytes .entry))) (memoryOf (now (permanent .entry)) (now (scratch .entry)) (now (map .entry))) (calls.viewed t p)) ⌝ }
 {
     match spot::check_use(words, bytes, permanent, scratch, map, t, p) {
-        Spot::Refused(n) => Answer {
-            status: n,
-            value: 0,
-        },
+        Spot::Refused(status) => Answer { status, value: 0 },
         Spot::In(_) => Answer {
             status: 0,
             value: 0,

@@ -111,7 +111,7 @@ module _ (s : State) (m : Memory) (t q : ℕ) where
     unfolding enterStatus entryStatus isMade hasRight otherParent worn
     enter-entry h = sym (admit-rest s m t a _ ∙ rw (lt-leb 64 q h))
 
-  -- n is what check_enter answers
+  -- n is what the checks answer
   pub enterable : {n : ℕ} → Good s → n ≡ enterStatus s m t q → n ≡ 0 → Enterable s t q
   enterable g e z =
       let k : EnterOk s m t q = enter-ok s m t q (sym e ∙ z) in
@@ -127,13 +127,12 @@ module _ (s : State) (m : Memory) (t q : ℕ) where
         };
       }
 
--- the same over the words, where k, l, p and x are what the code reads of them
-pub entry-read : (w b : List ℕ) (m : Memory) (t q : ℕ) {k l p n : ℕ} {x : Area} → Admitted (stateOf w b) m t → q < 64
-    → k ≡ getD w (512 + t * 2) 0 → l ≡ getD w (513 + t * 2) 0 → p ≡ innermost (stackAt (stateOf w b) t) → x ≡ areaOf w q
-    → n ≡ entryStatus k l p x q → n ≡ enterStatus (stateOf w b) m t q
-entry-read w b m t q a h ek el ep ex e =
-    e ∙ rw (ep, ek ∙ sym (kind-read w b t (a .thread)), el ∙ sym (len-read w b t (a .thread)), ex ∙ sym (area-read w b q h))
-    (enter-entry (stateOf w b) m t q a h)
+-- the refusals of a thread and an area that are there, where k, l and x are what the code reads of them
+pub there-read : (w b : List ℕ) (t q p : ℕ) {k l n : ℕ} {x : Area} → t < 16 → q < 64
+    → k ≡ getD w (512 + t * 2) 0 → l ≡ getD w (513 + t * 2) 0 → x ≡ areaOf w q
+    → n ≡ entryStatus k l p x q → n ≡ entryStatus (threadAt (stateOf w b) t .kind) (threadAt (stateOf w b) t .len) p (areaAt (stateOf w b) q) q
+there-read w b t q p ht hq ek el ex e =
+    rw (kind-read w b t ht ∙ sym ek, len-read w b t ht ∙ sym el, area-read w b q hq ∙ sym ex) e
 
 -- what an area that opens has, from its record in the words
 module _ (w b : List ℕ) (q p : ℕ) (o : Openable (stateOf w b) q p) {x : Area} where

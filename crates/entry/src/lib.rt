@@ -9,8 +9,8 @@ ghost use mathlib.Core.Path.{_≡_};
 ghost use Prim.Native.Nat.{_<_, _≤_};
 ghost use Rattle.layout.specs.Choice.{pick};
 ghost use Rattle.display.specs.Display.{extendedRow};
-ghost use Rattle.model.specs.State.{isScope, threadAt};
-ghost use Rattle.model.specs.Scopes.{lastGeneration, enterStatus, reentered, opened, enteredArea, enterState, enterValue};
+ghost use Rattle.model.specs.State.{isScope, threadAt, areaAt, stackAt, innermost};
+ghost use Rattle.model.specs.Scopes.{lastGeneration, reentered, opened, enteredArea, enterState, enterValue};
 ghost use Rattle.model.specs.Calls as calls;
 ghost use Rattle.tables.specs.Decode.{stateOf, rowOf, putRow, Sized, Holds};
 ghost use Rattle.tables.specs.Contract.{memoryOf, Ready, Done};
@@ -50,28 +50,13 @@ fn check_entry(kind: u64, len: u64, inner: u64, x: Area, q: u64) -> u64
     0
 }
 
-fn check_enter(
-    words: &[u64; 548],
-    bytes: &[u8; 3072],
-    permanent: &[u64],
-    scratch: &[u64],
-    map: &[u64],
-    t: u64,
-    q: u64,
-) -> u64
-    requires { ⌜ Ready (now words) (now bytes) ⌝ }
-    ensures { λ n. ⌜ n ≡ enterStatus (stateOf (now (words .entry)) (now (bytes .entry))) (memoryOf (now (permanent .entry)) (now (scratch .entry)) (now (map .entry))) t q ⌝ }
+// The same, read from the tables; inner is the thread's innermost scope.
+fn check_there(words: &[u64; 548], bytes: &[u8; 3072], t: usize, q: u64, inner: u8) -> u64
+    requires { ⌜ (t < 16) × (q < 64) ⌝ }
+    ensures { λ n. ⌜ n ≡ entryStatus (threadAt (stateOf (now (words .entry)) (now (bytes .entry))) t .kind) (threadAt (stateOf (now (words .entry)) (now (bytes .entry))) t .len) inner (areaAt (stateOf (now (words .entry)) (now (bytes .entry))) q) q ⌝ }
 {
-    let refusal = threads::check_caller(words, bytes, permanent, scratch, map, t);
-    if refusal != 0 {
-        return refusal;
-    }
-    if 64 <= q {
-        return 6;
-    }
-    let kind = stacks::kind_at(words, t as usize);
-    let len = stacks::len_at(words, t as usize);
-    let inner = threads::innermost_scope(words, bytes, t as usize);
+    let kind = stacks::kind_at(words, t);
+    let len = stacks::len_at(words, t);
     let x = tables::area_at(words, q as usize);
     check_entry(kind, len, inner as u64, x, q)
 }
@@ -164,17 +149,19 @@ fn push(words: &mut [u64; 548], bytes: &mut [u8; 3072], t: usize, q: u8, inner: 
 
 // ---- the call
 
-fn apply_enter(words: &mut [u64; 548], bytes: &mut [u8; 3072], t: usize, q: usize) -> u64
-    requires { ⌜ Ready (now words) (now bytes) × Enterable (stateOf (now words) (now bytes)) t q ⌝ }
+// The effect of an accepted entry, below the innermost scope.
+fn apply_enter(words: &mut [u64; 548], bytes: &mut [u8; 3072], t: usize, q: usize, inner: u8) -> u64
+    requires { ⌜ Ready (now words) (now bytes) × Enterable (stateOf (now words) (now bytes)) t q × (inner ≡ innermost (stackAt (stateOf (now words) (now bytes)) t)) ⌝ }
     ensures { λ r. ⌜ r ≡ enterValue (stateOf (now (words .entry)) (now (bytes .entry))) q ⌝ }
     ensures { λ r. ⌜ Holds (now (words .exit)) (now (bytes .exit)) (enterState (stateOf (now (words .entry)) (now (bytes .entry))) t q) ⌝ }
 {
-    let inner = threads::innermost_scope(words, bytes, t);
     let generation = enter_area(words, bytes, q, inner as usize);
     push(words, bytes, t, q as u8, inner_after(q as u8, inner));
     generation
 }
 
+// Op 04: area q; the value is its generation. The innermost scope is looked up once, for the checks and
+// for the effect.
 pub fn enter(
     words: &mut [u64; 548],
     bytes: &mut [u8; 3072],
@@ -187,12 +174,27 @@ pub fn enter(
     requires { ⌜ Ready (now words) (now bytes) ⌝ }
     ensures { λ r. ⌜ Done (r .status) (r .value) (now (words .exit)) (now (bytes .exit)) (calls.outcomeOf (stateOf (now (words .entry)) (now (bytes .entry))) (memoryOf (now (permanent .entry)) (now (scratch .entry)) (now (map .entry))) (calls.enter t q)) ⌝ }
 {
-    let status = check_enter(words, bytes, permanent, scratch, map, t, q);
+    let caller = threads::check_caller(words, bytes, permanent, scratch, map, t);
+    if caller != 0 {
+        return Answer {
+            status: caller,
+            value: 0,
+        };
+    }
+    if 64 <= q {
+        return Answer {
+            status: 6,
+            value: 0,
+        };
+    }
+    let inner = threads::innermost_scope(words, bytes, t as usize);
+    let status = check_there(words, bytes, t as usize, q, inner);
     if status != 0 {
         return Answer { status, value: 0 };
     }
+    let generation = apply_enter(words, bytes, t as usize, q as usize, inner);
     Answer {
         status: 0,
-        value: apply_enter(words, bytes, t as usize, q as usize),
+        value: generation,
     }
 }

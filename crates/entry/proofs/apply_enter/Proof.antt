@@ -1,4 +1,4 @@
--- `areas::enter::apply_enter` meets its contract. Assumes nothing.
+-- `apply_enter` meets its contract: the area is entered, then the stack gets its entry.
 use denote.Ref.{now}
 use borrow.Author.Needs.{needs}
 use Rattle.tables.specs.Decode.{stateOf}
@@ -6,14 +6,10 @@ use Rattle.entry.specs.Entered.{entered-room, entered-holds}
 use Rattle.entry.proofs.apply_enter.Statement.{statement}
 use Rattle.entry.proofs.apply_enter.Tie as tie
 
-innermost-scope-requires : tie.Need-innermost-scope-requires
-innermost-scope-requires c κs = search needs
-
-cast-enter-area : tie.Need-cast-enter-area
-cast-enter-area c = search needs
-
 enter-area-requires : tie.Need-enter-area-requires
-enter-area-requires c κs = (c .before .before .before .before .before .pre .0 .sized, rw (c .before .before .innermost-scope .ensures) (c .before .before .before .before .before .pre .1 .opens))
+enter-area-requires c κs =
+    let o = c .before .before in
+    (o .pre .0 .sized, rw (o .pre .2) (o .pre .1 .opens))
 
 cast-push : tie.Need-cast-push
 cast-push c = search needs
@@ -26,23 +22,22 @@ inner-after-requires c κs = search needs
 
 push-requires : tie.Need-push-requires
 push-requires c κs =
-    let o = c .before .before .before .before .before .before .before .before .before in
+    let o = c .before .before .before .before .before .before in
     let a = o .args in
     let l = c .before .before .before .enter-area .ensures .1 in
     (l .sized, o .pre .1 .thread, entered-room (stateOf (now (a .words)) (now (a .bytes))) _ _ (a .t) (a .q) _ l (o .pre .1 .room))
 
 returns : tie.Need-returns
 returns c =
-    let a = c .before .before .before .before .before .before .before .before .before .before .args in
+    let s = c .before .before .before .before .before .before .before in
+    let a = s .args in
     let o = c .before .before .before .before .enter-area .ensures in
-    (o .0, entered-holds (now (a .words)) (now (a .bytes)) _ _ _ _ (a .t) (a .q) _ _ (c .before .before .before .before .before .before .before .innermost-scope .ensures) (c .before .inner-after .ensures) (o .1) (c .push .ensures))
+    (o .0, entered-holds (now (a .words)) (now (a .bytes)) _ _ _ _ (a .t) (a .q) _ _ (s .pre .2) (c .before .inner-after .ensures) (o .1) (c .push .ensures))
 
 pub apply-enter-spec : {M : Type 1} → statement M
 apply-enter-spec =
     tie.close
     (tie.spec
-    innermost-scope-requires
-    cast-enter-area
     enter-area-requires
     cast-push
     cast-inner-after

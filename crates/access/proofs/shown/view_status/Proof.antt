@@ -27,8 +27,8 @@ call c = calls.viewed (start c .args .t) (start c .args .p)
 check-use-requires : tie.Need-check-use-requires
 check-use-requires c κs = search needs
 
-enum-known-n : tie.Need-enum-known-n
-enum-known-n c = search needs
+enum-known-status : tie.Need-enum-known-status
+enum-known-status c = search needs
 
 enum-told : tie.Need-enum-told
 enum-told c = search needs
@@ -36,7 +36,7 @@ enum-told c = search needs
 returns : tie.Need-returns
 returns c =
     let d = c .before .before .before in
-    let e = spot-refused _ (sym (c .before .n .given .1) ∙ d .check-use .ensures) in
+    let e = spot-refused _ (sym (c .before .status .given .1) ∙ d .check-use .ensures) in
     told-refused (state d) (memory d) (call d) (e .0 ∙ view-is (state d) (memory d) (start d .args .t) (start d .args .p)) (e .1)
 
 returns-2 : tie.Need-returns-2
@@ -46,4 +46,4 @@ returns-2 c =
     told-accepted (state d) (memory d) (call d) (sym (e .0) ∙ view-is (state d) (memory d) (start d .args .t) (start d .args .p)) refl refl refl
 
 pub view-status-spec : {M : Type 1} → statement M
-view-status-spec = tie.close (tie.spec check-use-requires enum-known-n enum-told returns returns-2)
+view-status-spec = tie.close (tie.spec check-use-requires enum-known-status enum-told returns returns-2)
