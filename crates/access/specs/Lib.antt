@@ -1,7 +1,5 @@
 -- The definitions that the contracts cite, and the laws that the proofs use of them.
 pub mod Spots
-pub mod Shown
 pub mod Chains
 pub mod Statuses
 pub mod Effects
-pub mod Parts

@@ -1,3 +1,2 @@
--- The laws of ops 03 and 05.
+-- The laws of op 03.
 pub mod Make
-pub mod Exit

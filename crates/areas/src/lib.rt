@@ -1,3 +1,2 @@
-// The calls of scopes: made and left. (Crate `entry` has how one is entered.)
+// Scopes are made. (Crates `entry` and `exit` have how one is entered and left.)
 pub mod make; // make.rt: op 03
-pub mod exit; // exit.rt: op 05

@@ -1,12 +1,12 @@
 // Ops 06 to 0a: an object is allocated, its slots are stored and loaded, its data words written and
 // read; and its data as a part of its store.
-use access::Part;
 use layout::stack::Answer;
+use views::Part;
 ghost use mathlib.Core.Path.{_≡_};
 ghost use Rattle.model.specs.Calls as calls;
 ghost use Rattle.tables.specs.Decode.{stateOf};
 ghost use Rattle.tables.specs.Contract.{memoryOf, Ready, Done, Told, Written};
-ghost use Rattle.access.specs.Shown.{partOf};
+ghost use Rattle.views.specs.Shown.{partOf};
 
 // Op 06: an object with so many slots and data words in the current area; the value is its handle.
 #[no_mangle]
@@ -137,10 +137,10 @@ pub extern "C" fn scopes_view_status(
     requires { ⌜ Ready (now words) (now bytes) ⌝ }
     ensures { λ r. ⌜ Told (r .status) (r .value) (stateOf (now (words .entry)) (now (bytes .entry))) (calls.outcomeOf (stateOf (now (words .entry)) (now (bytes .entry))) (memoryOf (now (permanent .entry)) (now (scratch .entry)) (now (map .entry))) (calls.viewed t object)) ⌝ }
 {
-    access::view_status(words, bytes, permanent, scratch, map, t, object)
+    views::view_status(words, bytes, permanent, scratch, map, t, object)
 }
 
-// Where its data lie: a store, the first word and how many; what `access::view` shows.
+// Where its data lie: a store, the first word and how many; what `views::view` shows.
 #[no_mangle]
 pub extern "C" fn scopes_view_place(
     words: &[u64; 548],
@@ -154,5 +154,5 @@ pub extern "C" fn scopes_view_place(
     requires { ⌜ Ready (now words) (now bytes) ⌝ }
     ensures { λ r. ⌜ r ≡ partOf (stateOf (now (words .entry)) (now (bytes .entry))) (memoryOf (now (permanent .entry)) (now (scratch .entry)) (now (map .entry))) t object ⌝ }
 {
-    access::view_place(words, bytes, permanent, scratch, map, t, object)
+    views::view_place(words, bytes, permanent, scratch, map, t, object)
 }

@@ -102,5 +102,5 @@ pub extern "C" fn scopes_exit(
     requires { ⌜ Ready (now words) (now bytes) ⌝ }
     ensures { λ r. ⌜ Done (r .status) (r .value) (now (words .exit)) (now (bytes .entry)) (calls.outcomeOf (stateOf (now (words .entry)) (now (bytes .entry))) (memoryOf (now (permanent .entry)) (now (scratch .entry)) (now (map .entry))) (calls.exit t)) ⌝ }
 {
-    areas::exit::exit(words, bytes, permanent, scratch, map, t)
+    exit::exit(words, bytes, permanent, scratch, map, t)
 }

@@ -1,33 +1,12 @@
 -- What a line says: the fields of a frame, or nothing.
 -- Assumes nothing.
-use Prim.Native.Nat.{ℕ, zero, suc, _+_, _-_, _*_}
-use mathlib.Core.Bool.{Bool, true, false, not, _&&_, _||_}
-use mathlib.Core.List.{List, [], _∷_}
-use lib.Dec.{eqb, leb, ltb}
-use lib.ListN.{length, take, drop}
-use Rattle.layout.specs.Choice.{pick}
+use Prim.Native.Nat.{ℕ}
+use mathlib.Core.Bool.{Bool, _&&_, _||_}
+use mathlib.Core.List.{List}
+use lib.Dec.{eqb, leb}
+use lib.ListN.{length}
+use Rattle.digits.specs.Hexadecimal.{allDigits, fieldOf}
 use Rattle.lines.specs.declared.frame.Fields.{Fields}
-
--- "lower-case hexadecimal digits": 0 to 9, a to f
-unfoldable pub isDigit : ℕ → Bool
-isDigit b = (leb 48 b && leb b 57) || (leb 97 b && leb b 102)
-
--- the number that a digit stands for
-unfoldable pub digitValue : ℕ → ℕ
-digitValue b = pick (leb b 57) (b - 48) (b - 87)
-
-unfoldable pub allDigits : List ℕ → Bool
-allDigits [] = true
-allDigits (b ∷ l) = isDigit b && allDigits l
-
--- the number that digits stand for after the number v, the highest digit first
-unfoldable pub numberFrom : ℕ → List ℕ → ℕ
-numberFrom v [] = v
-numberFrom v (b ∷ l) = numberFrom (v * 16 + digitValue b) l
-
--- n digits from place at on
-unfoldable pub fieldOf : List ℕ → ℕ → ℕ → ℕ
-fieldOf l at n = numberFrom 0 (take n (drop at l))
 
 -- "op 2 .., thread 2, p 16, q 4, r 16"
 unfoldable pub fieldsOf : List ℕ → Fields

@@ -1,7 +1,5 @@
--- One line: what it says, what is kept of it, and how an answer is written.
+-- One line: what it says, and what is kept of it.
 pub mod Frames
-pub mod Answers
 pub mod Lines
 pub mod FrameLaws
-pub mod AnswerLaws
 pub mod LineLaws

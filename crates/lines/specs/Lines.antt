@@ -1,13 +1,13 @@
 -- The line so far, of which no more than 40 bytes are kept, and what reading it as a whole line answers.
 -- Assumes nothing.
-use Prim.Native.Nat.{ℕ, _+_, _≤_, min}
+use Prim.Native.Nat.{ℕ, min}
 use mathlib.Core.Path.{_≡_}
 use mathlib.Core.Bool.{true, false}
 use mathlib.Core.List.{List}
 use lib.ListN.{length, take}
 use Rattle.lines.specs.declared.frame.Line.{Line}
 use Rattle.lines.specs.declared.frame.Line.the-variants.{Frame, Bad}
-use Rattle.lines.specs.Frames.{allDigits, fieldsOf, isFrame}
+use Rattle.lines.specs.Frames.{fieldsOf, isFrame}
 
 -- line and len stand for the line so far, l: the first 40 bytes of l, and 41 or more for the length of every line longer than 40. So a longer
 -- line costs no memory.
@@ -20,10 +20,3 @@ pub record Holds (line : List ℕ) (len : ℕ) (l : List ℕ) : Type 0 where
 abbrev pub Means : Line → List ℕ → Type 0
 Means (Frame f) l = (isFrame l ≡ true) × (f ≡ fieldsOf l)
 Means Bad l = isFrame l ≡ false
-
--- n places from at on, all of them digits, whose number fits a word
-pub record Digits (line : List ℕ) (at n : ℕ) : Type 0 where
-  pub sized : length line ≡ 40
-  pub within : at + n ≤ 40
-  pub short : n ≤ 16
-  pub digits : allDigits line ≡ true

@@ -5,7 +5,8 @@ ghost use mathlib.Core.List.{List};
 ghost use Prim.Native.Nat.{ℕ};
 ghost use lib.Dec.{eqb};
 ghost use lib.ListN.{length};
-ghost use Rattle.lines.specs.Frames.{allDigits, fieldsOf, isOp, usesP, usesQ, usesR, unusedZero};
+ghost use Rattle.digits.specs.Hexadecimal.{allDigits};
+ghost use Rattle.lines.specs.Frames.{fieldsOf, isOp, usesP, usesQ, usesR, unusedZero};
 ghost use Rattle.lines.specs.Lines.{Holds, Means};
 
 // A line of 40 digits: op 2, thread 2, p 16, q 4, r 16.
@@ -28,11 +29,11 @@ fn read_fields(line: &[u8; 40]) -> Fields
     ensures { λ r. ⌜ r ≡ fieldsOf (now (line .entry)) ⌝ }
 {
     Fields {
-        op: crate::digit::field(line, 0, 2),
-        thread: crate::digit::field(line, 2, 2),
-        p: crate::digit::field(line, 4, 16),
-        q: crate::digit::field(line, 20, 4),
-        r: crate::digit::field(line, 24, 16),
+        op: digits::digit::field(line, 0, 2),
+        thread: digits::digit::field(line, 2, 2),
+        p: digits::digit::field(line, 4, 16),
+        q: digits::digit::field(line, 20, 4),
+        r: digits::digit::field(line, 24, 16),
     }
 }
 
@@ -99,7 +100,7 @@ pub fn parse_line(line: &[u8; 40], len: usize) -> Line
     if len != 40 {
         return Line::Bad;
     }
-    if !crate::digit::all_digits(line) {
+    if !digits::digit::all_digits(line) {
         return Line::Bad;
     }
     let f = read_fields(line);

@@ -12,11 +12,11 @@ use Rattle.tables.specs.Decode.{stateOf}
 use Rattle.tables.specs.Contract.{memoryOf, Ready}
 use Rattle.tables.specs.Cut.{put}
 use Rattle.lines.specs.declared.frame.Fields.{Fields}
-use Rattle.lines.specs.Answers.{answerOf}
+use Rattle.digits.specs.Answers.{answerOf}
 use Rattle.reader.specs.Output.{callOf, lineAnswer, afterLine}
 use Rattle.lines.specs.Lines.{Holds}
 use Rattle.reader.specs.Feeding.{Feeding, after, fed, finished, fed-none, fed-append}
-use Rattle.lines.specs.AnswerLaws.{put-put, put-nothing}
+use Rattle.digits.specs.AnswerLaws.{put-put, put-nothing}
 
 -- the tables and the three lent buffers
 pub record Core : Type 0 where

@@ -23,9 +23,9 @@ use Rattle.lines.specs.declared.frame.Fields.{Fields}
 use Rattle.lines.specs.declared.frame.Line.{Line}
 use Rattle.lines.specs.declared.frame.Line.the-variants.{Frame, Bad}
 use Rattle.lines.specs.Frames.{fieldsOf, isFrame}
-use Rattle.lines.specs.Answers.{answerOf}
+use Rattle.digits.specs.Answers.{answerOf}
 use Rattle.reader.specs.Output.{callOf, lineAnswer, afterLine, firstWorld}
-use Rattle.lines.specs.AnswerLaws.{length-answer, put-nothing}
+use Rattle.digits.specs.AnswerLaws.{length-answer, put-nothing}
 use Rattle.lines.specs.Lines.{Holds, Means}
 use Rattle.lines.specs.LineLaws.{holds-none}
 use Rattle.reader.specs.Feeding.{finished, finished-none, finished-rest, fed-none, fed-end, fed-other}

@@ -9,7 +9,7 @@ use Rattle.model.specs.Calls.{Call, outcomeOf, start, end, make, enter, exit, a
 use Rattle.model.specs.Run.{World, kept, step, begin}
 use Rattle.lines.specs.declared.frame.Fields.{Fields}
 use Rattle.lines.specs.Frames.{fieldsOf, isFrame}
-use Rattle.lines.specs.Answers.{answerOf}
+use Rattle.digits.specs.Answers.{answerOf}
 
 -- the call of an op that exists, by its number; 10 is 0a
 unfoldable pub callOf : Fields → Call

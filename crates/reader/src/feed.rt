@@ -100,7 +100,7 @@ fn end_line(
     ensures { λ r. ⌜ Ended (core (now (words .entry)) (now (bytes .entry)) (now (permanent .entry)) (now (scratch .entry)) (now (map .entry))) (core (now (words .exit)) (now (bytes .exit)) (now (permanent .exit)) (now (scratch .exit)) (now (map .exit))) (now (line .entry)) len (now (output .entry)) at (now (output .exit)) ⌝ }
 {
     let a = answer_line(words, bytes, permanent, scratch, map, line, len);
-    lines::answer::write_answer(output, at, a.status, a.value);
+    digits::answer::write_answer(output, at, a.status, a.value);
 }
 
 // One byte: a line feed ends the line so far; any other byte belongs to it.

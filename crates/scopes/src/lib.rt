@@ -39,7 +39,7 @@ pub fn carry_out(
         Op::End => threads::end(words, bytes, permanent, scratch, map, t),
         Op::Make => areas::make::make(words, bytes, permanent, scratch, map, t, q, r),
         Op::Enter => entry::enter(words, bytes, permanent, scratch, map, t, q),
-        Op::Exit => areas::exit::exit(words, bytes, permanent, scratch, map, t),
+        Op::Exit => exit::exit(words, bytes, permanent, scratch, map, t),
         Op::Allocate => allocation::allocate(words, bytes, permanent, scratch, map, t, q, r),
         Op::Store => references::store(words, bytes, permanent, scratch, map, t, p, q, r),
         Op::Load => references::load(words, bytes, permanent, scratch, map, t, p, q),

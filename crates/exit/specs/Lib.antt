@@ -1,0 +1,2 @@
+-- The laws of op 05.
+pub mod Exit

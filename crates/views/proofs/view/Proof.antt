@@ -1,0 +1,84 @@
+-- `view` meets its contract: the part is the one that view_place tells.
+use borrow.Author.Needs.{needs}
+use denote.Ref.{now}
+use Rattle.model.specs.State.{State, Memory}
+use Rattle.tables.specs.Decode.{stateOf}
+use Rattle.tables.specs.Contract.{memoryOf}
+use Prim.Native.Nat.{_+_, _≤_}
+use native.Mathlib.Omega.{arith}
+use Rattle.views.specs.Parts.{part-low, permanent-end, scratch-end, view-permanent, view-scratch}
+use Rattle.views.proofs.view.Statement.{statement}
+use Rattle.views.proofs.view.Tie as tie
+
+abbrev start : tie.After-view-place → tie.Start
+start c = c .before .before .before .before
+
+abbrev state : tie.After-view-place → State
+state c = stateOf (now (start c .args .words)) (now (start c .args .bytes))
+
+abbrev memory : tie.After-view-place → Memory
+memory c = memoryOf (now (start c .args .permanent)) (now (start c .args .scratch)) (now (start c .args .map))
+
+low : (c : tie.After-view-place) → c .view-place .result .from + c .view-place .result .len ≤ 16384
+low c = part-low (state c) (memory c) (start c .args .t) (start c .args .p) _ (c .view-place .ensures) (start c .pre .good)
+
+view-place-requires : tie.Need-view-place-requires
+view-place-requires c κs = search needs
+
+add-to : tie.Need-add-to
+add-to c = omega (arith, low c)
+
+mul-result : tie.Need-mul-result
+mul-result c = omega (arith, low (c .before .before))
+
+sub-result : tie.Need-sub-result
+sub-result c = search needs
+
+part-result-start : tie.Need-part-result-start
+part-result-start c = search needs
+
+part-result-end : tie.Need-part-result-end
+part-result-end c =
+    let d = c .before .before in
+    permanent-end (state d) (memory d) (start d .args .t) (start d .args .p) _ (d .view-place .ensures) (c .if1 .taken) (start d .pre .good)
+
+returns : tie.Need-returns
+returns c =
+    let d = c .before .before .before in
+    view-permanent (state d) (memory d) (start d .args .t) (start d .args .p) _ (d .view-place .ensures) (c .before .if1 .taken) (start d .args .permanent .ptr) (start d .args .scratch .ptr)
+
+mul-result-2 : tie.Need-mul-result-2
+mul-result-2 c = omega (arith, low (c .before .before))
+
+sub-result-2 : tie.Need-sub-result-2
+sub-result-2 c = search needs
+
+part-result-start-2 : tie.Need-part-result-start-2
+part-result-start-2 c = search needs
+
+part-result-end-2 : tie.Need-part-result-end-2
+part-result-end-2 c =
+    let d = c .before .before in
+    scratch-end (state d) (memory d) (start d .args .t) (start d .args .p) _ (d .view-place .ensures) (c .if1 .left) (start d .pre .good)
+
+returns-2 : tie.Need-returns-2
+returns-2 c =
+    let d = c .before .before .before in
+    view-scratch (state d) (memory d) (start d .args .t) (start d .args .p) _ (d .view-place .ensures) (c .before .if1 .left) (start d .args .permanent .ptr) (start d .args .scratch .ptr)
+
+pub view-spec : {M : Type 1} → statement M
+view-spec =
+    tie.close
+    (tie.spec
+    view-place-requires
+    add-to
+    mul-result
+    sub-result
+    part-result-start
+    part-result-end
+    returns
+    mul-result-2
+    sub-result-2
+    part-result-start-2
+    part-result-end-2
+    returns-2)

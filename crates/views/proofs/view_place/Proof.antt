@@ -1,0 +1,77 @@
+-- `view_place` meets its contract: the place of each case of what check_use answers.
+use mathlib.Core.Path.{_≡_, sym, _∙_}
+use borrow.Author.Needs.{needs}
+use denote.Ref.{now}
+use Rattle.model.specs.State.{State, Memory}
+use Rattle.tables.specs.Decode.{stateOf}
+use Rattle.tables.specs.Contract.{memoryOf}
+use native.Mathlib.Omega.{arith}
+use Rattle.model.specs.Checks.{useStatus}
+use Rattle.objects.specs.Found.{objectOf}
+use Rattle.objects.specs.Places.{Lies}
+use Rattle.access.specs.Spots.{spot-in, spot-refused}
+use Rattle.views.specs.Parts.{part-refused, part-accepted, object-in}
+use Rattle.views.proofs.view_place.Statement.{statement}
+use Rattle.views.proofs.view_place.Tie as tie
+
+abbrev start : tie.After-check-use → tie.Start
+start c = c .before .before .before .before
+
+abbrev state : tie.After-check-use → State
+state c = stateOf (now (start c .args .words)) (now (start c .args .bytes))
+
+abbrev memory : tie.After-check-use → Memory
+memory c = memoryOf (now (start c .args .permanent)) (now (start c .args .scratch)) (now (start c .args .map))
+
+-- what check_use answered: an object
+abbrev past : tie.After-o → tie.After-check-use
+past c = c .before .before
+
+used : (c : tie.After-o) → (useStatus (state (past c)) (memory (past c)) (start (past c) .args .t) (start (past c) .args .p) 0 ≡ 0) × (c .o .given .0 .0 ≡ objectOf (state (past c)) (memory (past c)) (start (past c) .args .p))
+used c = spot-in _ (sym (c .o .given .1) ∙ past c .check-use .ensures)
+
+lies : (c : tie.After-o) → Lies (memory (past c)) (c .o .given .0 .0)
+lies c = object-in (state (past c)) (memory (past c)) (start (past c) .args .t) (start (past c) .args .p) (used c .0) _ (used c .1) (start (past c) .pre .good)
+
+check-use-requires : tie.Need-check-use-requires
+check-use-requires c κs = search needs
+
+enum-known-n : tie.Need-enum-known-n
+enum-known-n c = search needs
+
+enum-known-o : tie.Need-enum-known-o
+enum-known-o c = search needs
+
+store-of-requires : tie.Need-store-of-requires
+store-of-requires c κs = search needs
+
+add-t14 : tie.Need-add-t14
+add-t14 c = omega (arith, lies (c .before .before) .low)
+
+add-t15 : tie.Need-add-t15
+add-t15 c = omega (arith, lies (c .before .before .before) .low)
+
+returns : tie.Need-returns
+returns c =
+    let d = c .before .before .before in
+    let e = spot-refused _ (sym (c .before .n .given .1) ∙ d .check-use .ensures) in
+    part-refused (state d) (memory d) (start d .args .t) (start d .args .p) (e .0) (e .1)
+
+returns-2 : tie.Need-returns-2
+returns-2 c =
+    let k = c .before .before .before in
+    let d = past k in
+    rw (c .before .store-of .ensures) (part-accepted (state d) (memory d) (start d .args .t) (start d .args .p) (used k .0) _ (used k .1))
+
+pub view-place-spec : {M : Type 1} → statement M
+view-place-spec =
+    tie.close
+    (tie.spec
+    check-use-requires
+    enum-known-n
+    enum-known-o
+    store-of-requires
+    add-t14
+    add-t15
+    returns
+    returns-2)

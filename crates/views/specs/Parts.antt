@@ -1,0 +1,143 @@
+-- Laws of the shown part.
+-- Assumes nothing.
+use Prim.Native.Nat.{ℕ, _+_, _-_, _*_, _≤_}
+use mathlib.Core.Bool.{Bool, true, false}
+use mathlib.Core.List.{List}
+use mathlib.Core.Path.{_≡_, refl, sym, ap, _∙_}
+use mathlib.Core.Logic.{_≢_}
+use native.Mathlib.Omega.{arith}
+use native.Mathlib.Nat.{add-sub-cancel-left}
+use lib.Dec.{eqb}
+use lib.ListN.{length, take, drop}
+use borrow.Author.Tests.{ne-eqb, eqb-true}
+use Rattle.layout.specs.Choice.{pick, cases}
+use Rattle.layout.specs.Handle.{areaOf}
+use Rattle.layout.specs.Header.{dataOf}
+use Rattle.model.specs.State.{State, Memory, isScope}
+use Rattle.model.specs.Checks.{headerAt, useStatus}
+use Rattle.model.specs.References.{placeAfter}
+use Rattle.model.specs.Data.{dataIndex, viewStatus, viewWords}
+use Rattle.model.specs.Invariant.{Good}
+use Rattle.model.proofs.Accepted.{use-ok}
+use Rattle.objects.specs.declared.find.Object.{Object}
+use Rattle.objects.specs.Found.{objectOf}
+use Rattle.objects.specs.Places.{Lies}
+use Rattle.views.specs.declared.Part.{Part}
+use Rattle.access.specs.Statuses.{object-area, object-words}
+use Rattle.access.specs.Effects.{place-is, index-is, object-lies}
+use Rattle.views.specs.Shown.{shownIn, shownFrom, shownLength, partOf, Shown}
+
+module _ (s : State) (m : Memory) (t p : ℕ) where
+  pub view-is : useStatus s m t p 0 ≡ viewStatus s m t p
+  unfolding viewStatus
+  view-is = refl
+
+  -- ---- what is shown, by numbers: of a refused call
+
+  pub part-refused : {n : ℕ} → n ≡ useStatus s m t p 0 → n ≢ 0 → record { status = n; store = 0; from = 0; len = 0 } ≡ partOf s m t p
+  unfolding partOf shownIn shownFrom shownLength
+  part-refused e h = rw (ne-eqb (viewStatus s m t p) 0 (λ z. h (e ∙ view-is ∙ z)), ← view-is, ← e) refl
+
+  -- of an accepted one, with its object
+  module _ (z : useStatus s m t p 0 ≡ 0) (o : Object) (e : o ≡ objectOf s m p) where
+    accepted : viewStatus s m t p ≡ 0
+    accepted = sym view-is ∙ z
+
+    area-is : o .area ≡ areaOf p
+    area-is = ap (λ (x : Object). x .area) e ∙ object-area s m p
+
+    words-is : o .words ≡ dataOf (headerAt s m p)
+    words-is = ap (λ (x : Object). x .words) e ∙ object-words s m p
+
+    from-is : o .at + 1 + o .slots ≡ placeAfter s p (dataIndex s m p 0)
+    from-is =
+        let d : o .slots + 0 ≡ o .slots = omega arith in
+        ap (λ (i : ℕ). o .at + 1 + i) (sym d ∙ index-is s m p o e 0) ∙ place-is s m p o e (dataIndex s m p 0)
+
+    pub part-accepted : record { status = 0; store = pick (isScope (o .area)) 1 0; from = o .at + 1 + o .slots; len = o .words } ≡ partOf s m t p
+    unfolding partOf shownIn shownFrom shownLength
+    part-accepted = rw (accepted, area-is, words-is, from-is) refl
+
+    pub object-in : Good s → Lies m o
+    object-in g = object-lies s m p o e g t (use-ok s m t p 0 z .0)
+
+  -- ---- the words there; store 0 is the permanent one, any other the scratch
+
+  words-there : take (shownLength s m t p) (drop (shownFrom s m t p) (shownIn s m t p (m .permanent) (m .scratch))) ≡ viewWords s m t p
+  unfolding viewWords shownIn shownFrom shownLength
+  words-there = cases (eqb (viewStatus s m t p) 0) (λ k. rw k refl) (λ k. rw k refl)
+
+  in-permanent : {A : Type 0} (x y : A) → _≡_ {A = ℕ} (shownIn s m t p 0 1) 0 → shownIn s m t p x y ≡ x
+  unfolding shownIn
+  in-permanent x y = by (eqb (viewStatus s m t p) 0) (isScope (areaOf p))
+    where
+      by : (b c : Bool) → _≡_ {A = ℕ} (pick b (pick c 1 0) 0) 0 → pick b (pick c y x) x ≡ x
+      by true true h = absurd (omega arith)
+      by true false h = refl
+      by false c h = refl
+
+  in-scratch : {A : Type 0} (x y : A) → _≢_ {A = ℕ} (shownIn s m t p 0 1) 0 → shownIn s m t p x y ≡ y
+  unfolding shownIn
+  in-scratch x y = by (eqb (viewStatus s m t p) 0) (isScope (areaOf p))
+    where
+      by : (b c : Bool) → _≢_ {A = ℕ} (pick b (pick c 1 0) 0) 0 → pick b (pick c y x) x ≡ y
+      by true true h = refl
+      by true false h = absurd (h refl)
+      by false c h = absurd (h refl)
+
+  room : Good s → (shownFrom s m t p + shownLength s m t p ≤ 16384)
+      × (shownFrom s m t p + shownLength s m t p ≤ length (shownIn s m t p (m .permanent) (m .scratch)))
+  unfolding shownIn shownFrom shownLength
+  room g = cases (eqb (viewStatus s m t p) 0)
+      (λ k. let z : useStatus s m t p 0 ≡ 0 = view-is ∙ eqb-true (viewStatus s m t p) 0 k in
+      let o : Object = objectOf s m p in
+      let l = object-in z o refl g in
+      rw (k, ← from-is z o refl, ← words-is z o refl, ← area-is z o refl) (omega (arith, l .low), omega (arith, l .inside)))
+      (λ k. rw k (omega arith, omega arith))
+
+  -- a place that is answered, and the words of one store and where it begins
+  module _ (r : Part) (e : r ≡ partOf s m t p) where
+    store-is : r .store ≡ shownIn s m t p 0 1
+    unfolding partOf
+    store-is = ap (λ (x : Part). x .store) e
+
+    starts : r .from ≡ shownFrom s m t p
+    unfolding partOf
+    starts = ap (λ (x : Part). x .from) e
+
+    counts : r .len ≡ shownLength s m t p
+    unfolding partOf
+    counts = ap (λ (x : Part). x .len) e
+
+    ends : (l : List ℕ) → shownIn s m t p (m .permanent) (m .scratch) ≡ l → Good s → r .from + r .len ≤ length l
+    ends l el g = omega (arith, room g .1, starts, counts, ap (length {A = ℕ}) el)
+
+    module _ (l : List ℕ) (b permanent scratch : ℕ × ℕ) (el : shownIn s m t p (m .permanent) (m .scratch) ≡ l) (eb : shownIn s m t p permanent scratch ≡ b) where
+      viewed : (take (r .from + r .len - r .from) (drop (r .from) l) ≡ viewWords s m t p) × Shown (b .0, r .from * 8 + b .1) permanent scratch s m t p
+      viewed = (
+        rw (add-sub-cancel-left, starts, counts, ← el) words-there,
+        record { store-is = ap (λ (x : ℕ × ℕ). x .0) (sym eb); place-is = rw (starts, ← eb) refl },
+      )
+
+    pub part-low : Good s → r .from + r .len ≤ 16384
+    part-low g = omega (arith, room g .0, starts, counts)
+
+    module _ (h : r .store ≡ 0) where
+      pub permanent-end : Good s → r .from + r .len ≤ length (m .permanent)
+      permanent-end = ends (m .permanent) (in-permanent (m .permanent) (m .scratch) (sym store-is ∙ h))
+
+      pub view-permanent : (permanent scratch : ℕ × ℕ)
+          → (take (r .from + r .len - r .from) (drop (r .from) (m .permanent)) ≡ viewWords s m t p)
+          × Shown (permanent .0, r .from * 8 + permanent .1) permanent scratch s m t p
+      view-permanent permanent scratch =
+          viewed (m .permanent) permanent permanent scratch (in-permanent (m .permanent) (m .scratch) (sym store-is ∙ h)) (in-permanent permanent scratch (sym store-is ∙ h))
+
+    module _ (h : r .store ≢ 0) where
+      pub scratch-end : Good s → r .from + r .len ≤ length (m .scratch)
+      scratch-end = ends (m .scratch) (in-scratch (m .permanent) (m .scratch) (λ z. h (store-is ∙ z)))
+
+      pub view-scratch : (permanent scratch : ℕ × ℕ)
+          → (take (r .from + r .len - r .from) (drop (r .from) (m .scratch)) ≡ viewWords s m t p)
+          × Shown (scratch .0, r .from * 8 + scratch .1) permanent scratch s m t p
+      view-scratch permanent scratch =
+          viewed (m .scratch) scratch permanent scratch (in-scratch (m .permanent) (m .scratch) (λ z. h (store-is ∙ z))) (in-scratch permanent scratch (λ z. h (store-is ∙ z)))

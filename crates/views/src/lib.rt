@@ -1,0 +1,107 @@
+// An object's data shown as a part of the permanent or scratch store itself, and the call beside it
+// that yields the status.
+use access::Spot;
+use layout::stack::Answer;
+ghost use mathlib.Core.Path.{_≡_};
+ghost use Rattle.layout.specs.Choice.{pick};
+ghost use Rattle.model.specs.State.{isScope};
+ghost use Rattle.model.specs.Data.{viewWords};
+ghost use Rattle.model.specs.Calls as calls;
+ghost use Rattle.tables.specs.Decode.{stateOf};
+ghost use Rattle.tables.specs.Contract.{memoryOf, Ready, Told};
+ghost use Rattle.views.specs.Shown.{partOf, Shown};
+
+// A shown part by numbers: the status of the call; store 0 for the permanent one, 1 for the scratch;
+// which of its words is the first that is shown, and how many are. Refused: all 0 but the status.
+#[repr(C)]
+pub struct Part {
+    pub status: u64,
+    pub store: u64,
+    pub from: u64,
+    pub len: u64,
+}
+
+// The store that has an area's words.
+fn store_of(area: u64) -> u64
+    ensures { λ r. ⌜ r ≡ pick (isScope area) 1 0 ⌝ }
+{
+    if 2 <= area {
+        return 1;
+    }
+    0
+}
+
+// Where the shown part lies, for who cannot be given a part of a slice.
+pub fn view_place(
+    words: &[u64; 548],
+    bytes: &[u8; 3072],
+    permanent: &[u64],
+    scratch: &[u64],
+    map: &[u64],
+    t: u64,
+    p: u64,
+) -> Part
+    requires { ⌜ Ready (now words) (now bytes) ⌝ }
+    ensures { λ r. ⌜ r ≡ partOf (stateOf (now (words .entry)) (now (bytes .entry))) (memoryOf (now (permanent .entry)) (now (scratch .entry)) (now (map .entry))) t p ⌝ }
+{
+    match access::check_use(words, bytes, permanent, scratch, map, t, p) {
+        Spot::Refused(n) => Part {
+            status: n,
+            store: 0,
+            from: 0,
+            len: 0,
+        },
+        Spot::In(o) => Part {
+            status: 0,
+            store: store_of(o.area),
+            from: o.at as u64 + 1 + o.slots,
+            len: o.words,
+        }
+    }
+}
+
+// The shown part: exactly the object's data words, where they lie; where the call is refused a part
+// of length 0.
+pub fn view<'a>(
+    words: &[u64; 548],
+    bytes: &[u8; 3072],
+    permanent: &'a [u64],
+    scratch: &'a [u64],
+    map: &[u64],
+    t: u64,
+    p: u64,
+) -> &'a [u64]
+    requires { ⌜ Ready (now words) (now bytes) ⌝ }
+    ensures { λ r. ⌜ now r ≡ viewWords (stateOf (now (words .entry)) (now (bytes .entry))) (memoryOf (now (permanent .entry)) (now (scratch .entry)) (now (map .entry))) t p ⌝ }
+    ensures { λ r. ⌜ Shown (r .ptr) (permanent .entry .ptr) (scratch .entry .ptr) (stateOf (now (words .entry)) (now (bytes .entry))) (memoryOf (now (permanent .entry)) (now (scratch .entry)) (now (map .entry))) t p ⌝ }
+{
+    let part = view_place(words, bytes, permanent, scratch, map, t, p);
+    let from = part.from as usize;
+    let to = from + part.len as usize;
+    if part.store == 0 {
+        return &permanent[from..to];
+    }
+    &scratch[from..to]
+}
+
+// The call beside it.
+pub fn view_status(
+    words: &[u64; 548],
+    bytes: &[u8; 3072],
+    permanent: &[u64],
+    scratch: &[u64],
+    map: &[u64],
+    t: u64,
+    p: u64,
+) -> Answer
+    requires { ⌜ Ready (now words) (now bytes) ⌝ }
+    ensures { λ r. ⌜ Told (r .status) (r .value) (stateOf (now (words .entry)) (now (bytes .entry))) (calls.outcomeOf (stateOf (now (words .entry)) (now (bytes .entry))) (memoryOf (now (permanent .entry)) (now (scratch .entry)) (now (map .entry))) (calls.viewed t p)) ⌝ }
+{
+    match access::check_use(words, bytes, permanent, scratch, map, t, p) {
+        Spot::Refused(status) => Answer { status, value: 0 },
+        Spot::In(_) => Answer {
+            status: 0,
+            value: 0,
+        }
+    }
+}
