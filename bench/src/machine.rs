@@ -29,15 +29,15 @@ pub trait Machine {
 }
 
 /// The lent buffers.
-struct Lent {
+struct Supplied {
     permanent: Vec<u64>,
     scratch: Vec<u64>,
     map: Vec<u64>,
 }
 
-impl Lent {
-    fn new() -> Lent {
-        Lent {
+impl Supplied {
+    fn new() -> Supplied {
+        Supplied {
             permanent: vec![0; PERMANENT],
             scratch: vec![0; SCRATCH],
             map: vec![0; MAP],
@@ -56,24 +56,24 @@ struct Tables {
 
 pub struct Core {
     state: Box<Tables>,
-    lent: Lent,
+    supplied: Supplied,
 }
 
 /// A call of an exported function with the state, the buffers and numbers.
 macro_rules! call {
     ($function:ident, $core:ident, $($number:expr),*) => {{
-        let Core { state, lent } = $core;
+        let Core { state, supplied } = $core;
         // SAFETY: the state is one of set-up and calls; the buffers are slices with their lengths.
         let answer = unsafe {
             c::$function(
                 state.words.as_mut_ptr(),
                 state.bytes.as_mut_ptr(),
-                lent.permanent.as_mut_ptr(),
-                lent.permanent.len(),
-                lent.scratch.as_mut_ptr(),
-                lent.scratch.len(),
-                lent.map.as_mut_ptr(),
-                lent.map.len(),
+                supplied.permanent.as_mut_ptr(),
+                supplied.permanent.len(),
+                supplied.scratch.as_mut_ptr(),
+                supplied.scratch.len(),
+                supplied.map.as_mut_ptr(),
+                supplied.map.len(),
                 $($number),*
             )
         };
@@ -83,15 +83,15 @@ macro_rules! call {
 
 impl Machine for Core {
     fn set_up() -> Core {
-        let lent = Lent::new();
+        let supplied = Supplied::new();
         // SAFETY: three slices with their lengths.
         let state = unsafe {
             c::scopes_set_up(
-                lent.permanent.as_ptr(),
+                supplied.permanent.as_ptr(),
                 PERMANENT,
-                lent.scratch.as_ptr(),
+                supplied.scratch.as_ptr(),
                 SCRATCH,
-                lent.map.as_ptr(),
+                supplied.map.as_ptr(),
                 MAP,
                 HEAP,
                 PERMANENT as u64 - HEAP,
@@ -100,7 +100,7 @@ impl Machine for Core {
         assert_eq!(state.status, 0);
         let c::NewState { words, bytes, .. } = state;
         let state = Box::new(Tables { words, bytes });
-        Core { state, lent }
+        Core { state, supplied }
     }
 
     #[inline(always)]
@@ -153,8 +153,8 @@ impl Machine for Core {
 
 /// A call of a plain function with the state, the buffers and numbers.
 macro_rules! run {
-    ($function:path, $state:expr, $lent:expr, $($number:expr),*) => {{
-        let Lent { permanent, scratch, map } = $lent;
+    ($function:path, $state:expr, $supplied:expr, $($number:expr),*) => {{
+        let Supplied { permanent, scratch, map } = $supplied;
         let answer = $function($state, permanent, scratch, map, $($number),*);
         Answer { status: answer.status, value: answer.value }
     }};
@@ -164,35 +164,42 @@ macro_rules! plain_side {
     ($side:ident, $module:ident, $store:ident) => {
         pub struct $side {
             state: Box<$module::State>,
-            lent: Lent,
+            supplied: Supplied,
         }
 
         impl Machine for $side {
             fn set_up() -> $side {
                 $side {
                     state: Box::new($module::State::set_up(PERMANENT, SCRATCH, MAP, HEAP)),
-                    lent: Lent::new(),
+                    supplied: Supplied::new(),
                 }
             }
 
             #[inline(always)]
             fn start(&mut self, t: u64, kind: u64) -> Answer {
-                run!($module::start, &mut self.state, &self.lent, t, kind)
+                run!($module::start, &mut self.state, &self.supplied, t, kind)
             }
 
             #[inline(always)]
             fn make(&mut self, t: u64, area: u64, size: u64) -> Answer {
-                run!($module::make, &mut self.state, &self.lent, t, area, size)
+                run!(
+                    $module::make,
+                    &mut self.state,
+                    &self.supplied,
+                    t,
+                    area,
+                    size
+                )
             }
 
             #[inline(always)]
             fn enter(&mut self, t: u64, area: u64) -> Answer {
-                run!($module::enter, &mut self.state, &self.lent, t, area)
+                run!($module::enter, &mut self.state, &self.supplied, t, area)
             }
 
             #[inline(always)]
             fn exit(&mut self, t: u64) -> Answer {
-                run!($module::exit, &mut self.state, &self.lent, t)
+                run!($module::exit, &mut self.state, &self.supplied, t)
             }
 
             #[inline(always)]
@@ -200,7 +207,7 @@ macro_rules! plain_side {
                 run!(
                     $module::allocate,
                     &mut self.state,
-                    &mut self.lent,
+                    &mut self.supplied,
                     t,
                     slots,
                     data_words
@@ -212,7 +219,7 @@ macro_rules! plain_side {
                 run!(
                     $module::$store,
                     &self.state,
-                    &mut self.lent,
+                    &mut self.supplied,
                     t,
                     object,
                     slot,
@@ -222,7 +229,7 @@ macro_rules! plain_side {
 
             #[inline(always)]
             fn load(&mut self, t: u64, object: u64, slot: u64) -> Answer {
-                run!($module::load, &self.state, &self.lent, t, object, slot)
+                run!($module::load, &self.state, &self.supplied, t, object, slot)
             }
 
             #[inline(always)]
@@ -230,7 +237,7 @@ macro_rules! plain_side {
                 run!(
                     $module::write,
                     &self.state,
-                    &mut self.lent,
+                    &mut self.supplied,
                     t,
                     object,
                     index,
@@ -240,7 +247,7 @@ macro_rules! plain_side {
 
             #[inline(always)]
             fn read(&mut self, t: u64, object: u64, index: u64) -> Answer {
-                run!($module::read, &self.state, &self.lent, t, object, index)
+                run!($module::read, &self.state, &self.supplied, t, object, index)
             }
         }
     };

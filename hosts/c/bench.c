@@ -19,7 +19,7 @@ static uint64_t map[MAP_WORDS];
 static scopes_new_state core;
 
 /* The state and the buffers, as every call takes them. */
-#define LENT core.words, core.bytes, permanent, PERMANENT_WORDS, scratch, SCRATCH_WORDS, map, MAP_WORDS
+#define SUPPLIED core.words, core.bytes, permanent, PERMANENT_WORDS, scratch, SCRATCH_WORDS, map, MAP_WORDS
 
 /* One line for a call: what it is, its status and its value. Yields the value. */
 static uint64_t show(const char *call, scopes_answer answer)
@@ -37,34 +37,34 @@ static void begin(void)
 {
     core = scopes_set_up(permanent, PERMANENT_WORDS, scratch, SCRATCH_WORDS, map, MAP_WORDS, HEAP_WORDS, IMMORTAL_WORDS);
     printf("set-up gives status %" PRIu64 "\n", core.status);
-    show("meter starts, real-time", scopes_start(LENT, METER, SCOPES_REAL_TIME));
-    show("helper starts, real-time", scopes_start(LENT, HELPER, SCOPES_REAL_TIME));
-    show("plotter starts, real-time", scopes_start(LENT, PLOTTER, SCOPES_REAL_TIME));
-    show("meter makes the scope run, 32 words", scopes_make(LENT, METER, RUN, 32));
-    show("meter makes the scope sample, 32 words", scopes_make(LENT, METER, SAMPLE, 32));
+    show("meter starts, real-time", scopes_start(SUPPLIED, METER, SCOPES_REAL_TIME));
+    show("helper starts, real-time", scopes_start(SUPPLIED, HELPER, SCOPES_REAL_TIME));
+    show("plotter starts, real-time", scopes_start(SUPPLIED, PLOTTER, SCOPES_REAL_TIME));
+    show("meter makes the scope run, 32 words", scopes_make(SUPPLIED, METER, RUN, 32));
+    show("meter makes the scope sample, 32 words", scopes_make(SUPPLIED, METER, SAMPLE, 32));
 }
 
 /* The helper works on a sample too, and leaves the run before the meter leaves the sample. */
 static void parent_left_under_child(void)
 {
     title("A helper leaves a parent while its child is open");
-    show("meter enters run", scopes_enter(LENT, METER, RUN));
-    uint64_t limits = show("meter allocates limits in run, 1 data word", scopes_allocate(LENT, METER, 0, 1));
-    show("meter writes 70 into limits", scopes_write(LENT, METER, limits, 0, 70));
-    show("helper enters sample by itself", scopes_enter(LENT, HELPER, SAMPLE));
-    show("meter enters sample under run", scopes_enter(LENT, METER, SAMPLE));
-    show("helper leaves sample", scopes_exit(LENT, HELPER));
-    show("meter enters sample under run", scopes_enter(LENT, METER, SAMPLE));
-    show("helper enters sample by itself", scopes_enter(LENT, HELPER, SAMPLE));
-    show("helper enters run", scopes_enter(LENT, HELPER, RUN));
-    show("helper enters sample under run", scopes_enter(LENT, HELPER, SAMPLE));
-    uint64_t curve = show("meter allocates curve in sample, 1 slot", scopes_allocate(LENT, METER, 1, 0));
-    show("meter stores limits in curve", scopes_store(LENT, METER, curve, 0, limits));
-    show("helper leaves sample, the meter stays", scopes_exit(LENT, HELPER));
-    show("helper leaves run, the meter stays", scopes_exit(LENT, HELPER));
-    show("meter loads limits from curve", scopes_load(LENT, METER, curve, 0));
-    show("meter reads limits", scopes_read(LENT, METER, limits, 0));
-    show("meter stores curve in limits, which has no slot", scopes_store(LENT, METER, limits, 0, curve));
+    show("meter enters run", scopes_enter(SUPPLIED, METER, RUN));
+    uint64_t limits = show("meter allocates limits in run, 1 data word", scopes_allocate(SUPPLIED, METER, 0, 1));
+    show("meter writes 70 into limits", scopes_write(SUPPLIED, METER, limits, 0, 70));
+    show("helper enters sample by itself", scopes_enter(SUPPLIED, HELPER, SAMPLE));
+    show("meter enters sample under run", scopes_enter(SUPPLIED, METER, SAMPLE));
+    show("helper leaves sample", scopes_exit(SUPPLIED, HELPER));
+    show("meter enters sample under run", scopes_enter(SUPPLIED, METER, SAMPLE));
+    show("helper enters sample by itself", scopes_enter(SUPPLIED, HELPER, SAMPLE));
+    show("helper enters run", scopes_enter(SUPPLIED, HELPER, RUN));
+    show("helper enters sample under run", scopes_enter(SUPPLIED, HELPER, SAMPLE));
+    uint64_t curve = show("meter allocates curve in sample, 1 slot", scopes_allocate(SUPPLIED, METER, 1, 0));
+    show("meter stores limits in curve", scopes_store(SUPPLIED, METER, curve, 0, limits));
+    show("helper leaves sample, the meter stays", scopes_exit(SUPPLIED, HELPER));
+    show("helper leaves run, the meter stays", scopes_exit(SUPPLIED, HELPER));
+    show("meter loads limits from curve", scopes_load(SUPPLIED, METER, curve, 0));
+    show("meter reads limits", scopes_read(SUPPLIED, METER, limits, 0));
+    show("meter stores curve in limits, which has no slot", scopes_store(SUPPLIED, METER, limits, 0, curve));
 }
 
 /* An object's data as a part of the store that this host lent. */
@@ -82,40 +82,40 @@ static void show_part(const char *call, scopes_part part)
 static void reference_into_emptied_sample(void)
 {
     title("A plotter keeps a reference into an emptied sample");
-    uint64_t figure = show("plotter allocates figure in the heap, 1 slot", scopes_allocate(LENT, PLOTTER, 1, 0));
-    uint64_t points = show("meter allocates points in sample, 3 data words", scopes_allocate(LENT, METER, 0, 3));
-    show("meter writes 41 into points", scopes_write(LENT, METER, points, 0, 41));
-    show("meter writes 43 into points", scopes_write(LENT, METER, points, 2, 43));
-    show("plotter reads points", scopes_read(LENT, PLOTTER, points, 0));
-    show_part("plotter is shown points", scopes_view_place(LENT, PLOTTER, points));
-    show("plotter stores points in figure", scopes_store(LENT, PLOTTER, figure, 0, points));
-    show("meter leaves sample, the last one", scopes_exit(LENT, METER));
-    show("plotter reads points", scopes_read(LENT, PLOTTER, points, 0));
-    show_part("plotter is shown points", scopes_view_place(LENT, PLOTTER, points));
-    show("plotter stores points in figure", scopes_store(LENT, PLOTTER, figure, 0, points));
-    show("plotter loads from figure", scopes_load(LENT, PLOTTER, figure, 0));
-    show("meter enters sample again", scopes_enter(LENT, METER, SAMPLE));
-    show("meter allocates an object in the place of curve", scopes_allocate(LENT, METER, 0, 1));
-    uint64_t again = show("meter allocates points in their old place", scopes_allocate(LENT, METER, 0, 3));
-    show("plotter reads the old points", scopes_read(LENT, PLOTTER, points, 0));
-    show("plotter reads the new points", scopes_read(LENT, PLOTTER, again, 0));
+    uint64_t figure = show("plotter allocates figure in the heap, 1 slot", scopes_allocate(SUPPLIED, PLOTTER, 1, 0));
+    uint64_t points = show("meter allocates points in sample, 3 data words", scopes_allocate(SUPPLIED, METER, 0, 3));
+    show("meter writes 41 into points", scopes_write(SUPPLIED, METER, points, 0, 41));
+    show("meter writes 43 into points", scopes_write(SUPPLIED, METER, points, 2, 43));
+    show("plotter reads points", scopes_read(SUPPLIED, PLOTTER, points, 0));
+    show_part("plotter is shown points", scopes_view_place(SUPPLIED, PLOTTER, points));
+    show("plotter stores points in figure", scopes_store(SUPPLIED, PLOTTER, figure, 0, points));
+    show("meter leaves sample, the last one", scopes_exit(SUPPLIED, METER));
+    show("plotter reads points", scopes_read(SUPPLIED, PLOTTER, points, 0));
+    show_part("plotter is shown points", scopes_view_place(SUPPLIED, PLOTTER, points));
+    show("plotter stores points in figure", scopes_store(SUPPLIED, PLOTTER, figure, 0, points));
+    show("plotter loads from figure", scopes_load(SUPPLIED, PLOTTER, figure, 0));
+    show("meter enters sample again", scopes_enter(SUPPLIED, METER, SAMPLE));
+    show("meter allocates an object in the place of curve", scopes_allocate(SUPPLIED, METER, 0, 1));
+    uint64_t again = show("meter allocates points in their old place", scopes_allocate(SUPPLIED, METER, 0, 3));
+    show("plotter reads the old points", scopes_read(SUPPLIED, PLOTTER, points, 0));
+    show("plotter reads the new points", scopes_read(SUPPLIED, PLOTTER, again, 0));
 }
 
 /* The sample opens under another parent: the display of its last generation is gone. */
 static void another_nesting(void)
 {
     title("An emptied scope nests anew");
-    show("meter leaves sample", scopes_exit(LENT, METER));
-    uint64_t total = show("meter allocates total in run", scopes_allocate(LENT, METER, 0, 1));
-    show("plotter enters sample by itself", scopes_enter(LENT, PLOTTER, SAMPLE));
-    uint64_t curve = show("plotter allocates curve in sample, 1 slot", scopes_allocate(LENT, PLOTTER, 1, 0));
-    show("plotter stores total in curve: run is no ancestor now", scopes_store(LENT, PLOTTER, curve, 0, total));
-    show("meter enters sample under run", scopes_enter(LENT, METER, SAMPLE));
-    show("plotter leaves sample", scopes_exit(LENT, PLOTTER));
-    show("meter leaves run", scopes_exit(LENT, METER));
-    show("meter ends", scopes_end(LENT, METER));
-    show("helper ends", scopes_end(LENT, HELPER));
-    show("plotter ends", scopes_end(LENT, PLOTTER));
+    show("meter leaves sample", scopes_exit(SUPPLIED, METER));
+    uint64_t total = show("meter allocates total in run", scopes_allocate(SUPPLIED, METER, 0, 1));
+    show("plotter enters sample by itself", scopes_enter(SUPPLIED, PLOTTER, SAMPLE));
+    uint64_t curve = show("plotter allocates curve in sample, 1 slot", scopes_allocate(SUPPLIED, PLOTTER, 1, 0));
+    show("plotter stores total in curve: run is no ancestor now", scopes_store(SUPPLIED, PLOTTER, curve, 0, total));
+    show("meter enters sample under run", scopes_enter(SUPPLIED, METER, SAMPLE));
+    show("plotter leaves sample", scopes_exit(SUPPLIED, PLOTTER));
+    show("meter leaves run", scopes_exit(SUPPLIED, METER));
+    show("meter ends", scopes_end(SUPPLIED, METER));
+    show("helper ends", scopes_end(SUPPLIED, HELPER));
+    show("plotter ends", scopes_end(SUPPLIED, PLOTTER));
 }
 
 /* A stack that the scheduler holds by itself, and a call that is lent too little. */

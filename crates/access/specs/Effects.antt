@@ -56,7 +56,7 @@ module _ (s : State) (m : Memory) (p : ℕ) (o : Object) (e : o ≡ objectOf s m
   -- an accepted call
   module _ (g : Good s) (t : ℕ) where
     pub object-lies : UseOk s m t p → Lies m o
-    object-lies u = subst (Lies m) (sym e) (lies s m p g (u .called .lent) (u .object))
+    object-lies u = subst (Lies m) (sym e) (lies s m p g (u .called .supplied) (u .object))
 
     pub slot-room : (q : ℕ) → SlotOk s m t p q → Room m o q
     slot-room q k =

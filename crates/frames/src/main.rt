@@ -12,13 +12,13 @@ ghost use Rattle.reader.specs.Held.{core, Stands};
 
 // How many bytes the line so far has, and whether there may be more to read. After a failure nothing
 // is left to answer.
-struct Turn {
+struct Progress {
     len: usize,
     more: bool,
 }
 
-fn failed() -> Turn {
-    Turn {
+fn failed() -> Progress {
+    Progress {
         len: 0,
         more: false,
     }
@@ -44,7 +44,7 @@ fn answer_chunk(
     len: usize,
     chunk: &[u8],
     output: &mut [u8],
-) -> Turn
+) -> Progress
     requires { ⌜ (Ready (now words) (now bytes)) × (length (now line) ≡ 40) × (19 * length (now chunk) ≤ length (now output)) ⌝ }
     ensures { λ r. ⌜ (Ready (now (words .exit)) (now (bytes .exit))) × (length (now (line .exit)) ≡ 40) ⌝ }
 {
@@ -63,7 +63,7 @@ fn answer_chunk(
     if !write_answers(&output[..written]) {
         return failed();
     }
-    Turn {
+    Progress {
         len: fed.len,
         more: true,
     }
@@ -80,7 +80,7 @@ fn take_chunk(
     len: usize,
     input: &mut [u8],
     output: &mut [u8],
-) -> Turn
+) -> Progress
     requires { ⌜ (Ready (now words) (now bytes)) × (length (now line) ≡ 40) × (19 * length (now input) ≤ length (now output)) ⌝ }
     ensures { λ r. ⌜ (Ready (now (words .exit)) (now (bytes .exit))) × (length (now (line .exit)) ≡ 40) ⌝ }
 {
@@ -90,7 +90,7 @@ fn take_chunk(
         return failed();
     }
     if got == 0 {
-        return Turn { len, more: false };
+        return Progress { len, more: false };
     }
     let n = io::count(got, input);
     answer_chunk(
@@ -138,10 +138,10 @@ fn answer_all(
 {
     let mut line = [0u8; 40];
     let mut len = 0;
-    let mut turns = u64::MAX;
-    while 0 < turns {
-        turns -= 1;
-        let turn = take_chunk(
+    let mut reads = u64::MAX;
+    while 0 < reads {
+        reads -= 1;
+        let progress = take_chunk(
             words,
             bytes,
             permanent,
@@ -152,9 +152,9 @@ fn answer_all(
             input,
             output,
         );
-        len = turn.len;
-        if !turn.more {
-            turns = 0;
+        len = progress.len;
+        if !progress.more {
+            reads = 0;
         }
     }
     answer_rest(words, bytes, permanent, scratch, map, &line, len, output);

@@ -6,7 +6,7 @@ ghost use mathlib.Core.Path.{_≡_};
 ghost use Rattle.model.specs.Calls as calls;
 ghost use Rattle.tables.specs.Decode.{stateOf};
 ghost use Rattle.tables.specs.Contract.{memoryOf, Ready, Done, Told, Written};
-ghost use Rattle.views.specs.Shown.{partOf};
+ghost use Rattle.views.specs.PlacedView.{partOf};
 
 // Op 06: an object with so many slots and data words in the current area; the value is its handle.
 #[no_mangle]

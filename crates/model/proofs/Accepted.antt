@@ -20,7 +20,7 @@ use Rattle.model.specs.Data.{dataStatus}
 module _ (s : State) (m : Memory) (t : ℕ) where
   -- refusals 1 and 2
   pub record Admitted : Type 0 where
-    pub lent : fits s m ≡ true
+    pub supplied : fits s m ≡ true
     pub thread : t < 16
     pub started : 0 < threadAt s t .kind
 
@@ -31,7 +31,7 @@ module _ (s : State) (m : Memory) (t : ℕ) where
       let b = peel _ _ _ (a .1) in
       let c = peel _ _ _ (b .1) in (
         record {
-          lent = not-false (fits s m) (a .0);
+          supplied = not-false (fits s m) (a .0);
           thread = omega (arith, leb-false);
           started = ltb-true _ _ (not-false _ (c .0));
         },
@@ -40,7 +40,7 @@ module _ (s : State) (m : Memory) (t : ℕ) where
 
   -- op 01
   pub record StartOk (p : ℕ) : Type 0 where
-    pub lent : fits s m ≡ true
+    pub supplied : fits s m ≡ true
     pub thread : t < 16
     pub idle : threadAt s t .kind ≡ 0
     pub some : 0 < p
@@ -55,7 +55,7 @@ module _ (s : State) (m : Memory) (t : ℕ) where
       let d = peel _ _ _ (c .1) in
       let k = and-true (ltb 0 p) _ (not-false (isKind p) (d .0)) in
       record {
-        lent = not-false (fits s m) (a .0);
+        supplied = not-false (fits s m) (a .0);
         thread = omega (arith, leb-false);
         idle = omega (arith, ltb-false);
         some = omega (arith, ltb-true);

@@ -20,7 +20,7 @@ use Rattle.model.specs.Threads.{ofKind, startState, endState}
 use Rattle.model.specs.Scopes.{madeArea, makeState, pushed, enterState, popped, exitState}
 use Rattle.model.specs.Objects.{currentAt, grown, allocateState}
 use Rattle.model.specs.Calls.{Call, start, end, make, enter, exit, allocate, store, load, write, read, view, viewed, callStatus, callState}
-use Rattle.model.specs.Book.{Object, Book, blank, rowOf, occurrences, total, bookStart, bookEnter, bookExit, bookAllocate, bookStep}
+use Rattle.model.specs.History.{Object, History, blank, rowOf, occurrences, total, historyStart, historyEnter, historyExit, historyAllocate, historyStep}
 use Rattle.model.specs.Invariant.{parentIn, stacksIn, Good}
 use Rattle.model.proofs.Accepted.{start-ok, end-ok, make-ok, MakeOk, enter-ok, EnterOk, exit-ok, ExitOk, allocate-ok, AllocateOk}
 use Rattle.model.proofs.Lists.{total-set, occ-same}
@@ -52,7 +52,7 @@ same-first h i n = record {
 
 -- ---- threads
 
-module _ (s : State) (g : Good s) (b : Book) (m : Same s b) (t : ℕ) (l : t < 16) where
+module _ (s : State) (g : Good s) (b : History) (m : Same s b) (t : ℕ) (l : t < 16) where
   -- a push and a pop keep the kind
   started-same : (r : State) → threadAt r t .kind ≡ threadAt s t .kind → ((u : ℕ) → u ≢ t → threadAt r u ≡ threadAt s u) → (u : ℕ) → isStarted r u ≡ b .started u
   started-same r e f u = cases (eqb u t)
@@ -60,8 +60,8 @@ module _ (s : State) (g : Good s) (b : Book) (m : Same s b) (t : ℕ) (l : t < 1
       (λ d. rw (f u (eqb-false u t d)) (m .started u))
 
   -- a thread with no entries becomes of another kind
-  same-kind : threadAt s t .len ≡ 0 → (k : ℕ) (on : Bool) → ltb 0 k ≡ on → Same (withThread s t (ofKind (threadAt s t) k)) (bookStart b t on)
-  unfolding bookStart
+  same-kind : threadAt s t .len ≡ 0 → (k : ℕ) (on : Bool) → ltb 0 k ≡ on → Same (withThread s t (ofKind (threadAt s t) k)) (historyStart b t on)
+  unfolding historyStart
   same-kind z k on e = record {
     started = λ u. cases (eqb u t)
         (λ d. rw (eqb-true u t d, thread-same s t (ofKind (threadAt s t) k) (omega (arith, g .threads .size)), put-same) e)
@@ -75,7 +75,7 @@ module _ (s : State) (g : Good s) (b : Book) (m : Same s b) (t : ℕ) (l : t < 1
 
 -- ---- enter
 
-module _ (s : State) (m : Memory) (t q : ℕ) (g : Good s) (ok : EnterOk s m t q) (b : Book) (e : Same s b) where
+module _ (s : State) (m : Memory) (t q : ℕ) (g : Good s) (ok : EnterOk s m t q) (b : History) (e : Same s b) where
   enter-started : (u : ℕ) → isStarted (enterState s t q) u ≡ b .started u
   unfolding pushed
   enter-started = started-same s g b e t (ok .called .thread) (enterState s t q) (ap (λ (h : Thread). h .kind) (enter-thread s m t q g ok)) (enter-thread-other s t q)
@@ -90,12 +90,12 @@ module _ (s : State) (m : Memory) (t q : ℕ) (g : Good s) (ok : EnterOk s m t q
   other-parents : (a : ℕ) → a ≢ q → parentIn (enterState s t q) a ≡ b .parents a
   other-parents a ne = ap (λ (x : Area). x .parent) (enter-area-other s t q a ne) ∙ e .parents a
 
-  same-low : q < 2 → Same (enterState s t q) (bookEnter b t q)
-  unfolding bookEnter
+  same-low : q < 2 → Same (enterState s t q) (historyEnter b t q)
+  unfolding historyEnter
   same-low h = rw (lt-leb 2 q h) record { started = enter-started; rows = enter-rows; parents = λ a. ap (λ (x : Area). x .parent) (enter-low-area s t q a h) ∙ e .parents a }
 
-  same-open : 2 ≤ q → 0 < areaAt s q .count → Same (enterState s t q) (bookEnter b t q)
-  unfolding bookEnter
+  same-open : 2 ≤ q → 0 < areaAt s q .count → Same (enterState s t q) (historyEnter b t q)
+  unfolding historyEnter
   same-open h o = rw (le-leb 2 q h, ne-eqb (total q (b .rows)) 0 (λ z. omega (arith, counted h))) record {
     started = enter-started;
     rows = enter-rows;
@@ -104,8 +104,8 @@ module _ (s : State) (m : Memory) (t q : ℕ) (g : Good s) (ok : EnterOk s m t q
         (λ d. other-parents a (eqb-false a q d));
   }
 
-  same-fresh : 2 ≤ q → areaAt s q .count ≡ 0 → Same (enterState s t q) (bookEnter b t q)
-  unfolding bookEnter
+  same-fresh : 2 ≤ q → areaAt s q .count ≡ 0 → Same (enterState s t q) (historyEnter b t q)
+  unfolding historyEnter
   same-fresh h z = rw (le-leb 2 q h, eq-eqb (total q (b .rows)) 0 (omega (arith, counted h))) record {
     started = enter-started;
     rows = enter-rows;
@@ -117,12 +117,12 @@ module _ (s : State) (m : Memory) (t q : ℕ) (g : Good s) (ok : EnterOk s m t q
       inner : innermost (stackAt s t) ≡ innermost (rowOf b t)
       inner = ap innermost (sym (stack-is s t) ∙ ap (λ (r : List (List ℕ)). getD r t []) (e .rows))
 
-  pub same-enter : Same (enterState s t q) (bookEnter b t q)
+  pub same-enter : Same (enterState s t q) (historyEnter b t q)
   same-enter = by-area s q same-low same-fresh same-open
 
 -- ---- exit
 
-module _ (s : State) (m : Memory) (t : ℕ) (g : Good s) (ok : ExitOk s m t) (b : Book) (e : Same s b) where
+module _ (s : State) (m : Memory) (t : ℕ) (g : Good s) (ok : ExitOk s m t) (b : History) (e : Same s b) where
   -- the book's row has the core's top
   pub row-top : rowOf b t ≡ currentAt s t ∷ stackOf (popped (threadAt s t))
   row-top = ap (λ (r : List (List ℕ)). getD r t []) (sym (e .rows)) ∙ pop-is s m t g ok
@@ -148,13 +148,13 @@ module _ (s : State) (m : Memory) (t : ℕ) (g : Good s) (ok : ExitOk s m t) (b 
   left-parents : (a : ℕ) → a ≢ currentAt s t → parentIn (exitState s t) a ≡ b .parents a
   left-parents a ne = ap (λ (x : Area). x .parent) (exit-area-other s t a ne) ∙ e .parents a
 
-  exit-same-low : currentAt s t < 2 → Same (exitState s t) (bookExit b t)
-  unfolding bookExit
+  exit-same-low : currentAt s t < 2 → Same (exitState s t) (historyExit b t)
+  unfolding historyExit
   exit-same-low h = rw (row-top, lt-leb 2 (currentAt s t) h)
       record { started = exit-started; rows = exit-rows; parents = λ a. ap (λ (x : Area). x .parent) (exit-low-area s t a h) ∙ e .parents a }
 
-  exit-same-last : 2 ≤ currentAt s t → areaAt s (currentAt s t) .count ≤ 1 → Same (exitState s t) (bookExit b t)
-  unfolding bookExit
+  exit-same-last : 2 ≤ currentAt s t → areaAt s (currentAt s t) .count ≤ 1 → Same (exitState s t) (historyExit b t)
+  unfolding historyExit
   exit-same-last h k = rw (row-top, le-leb 2 (currentAt s t) h, eq-eqb (total (currentAt s t) (set (b .rows) t (stackOf (popped (threadAt s t))))) 0 (omega (arith, left-count h))) record {
     started = exit-started;
     rows = exit-rows;
@@ -163,8 +163,8 @@ module _ (s : State) (m : Memory) (t : ℕ) (g : Good s) (ok : ExitOk s m t) (b 
         (λ d. rw (put-other (b .parents) (currentAt s t) 0 a (eqb-false a (currentAt s t) d)) (left-parents a (eqb-false a (currentAt s t) d)));
   }
 
-  exit-same-more : 2 ≤ currentAt s t → 1 < areaAt s (currentAt s t) .count → Same (exitState s t) (bookExit b t)
-  unfolding bookExit
+  exit-same-more : 2 ≤ currentAt s t → 1 < areaAt s (currentAt s t) .count → Same (exitState s t) (historyExit b t)
+  unfolding historyExit
   exit-same-more h k = rw (row-top, le-leb 2 (currentAt s t) h, ne-eqb (total (currentAt s t) (set (b .rows) t (stackOf (popped (threadAt s t))))) 0 (λ z. omega (arith, left-count h))) record {
     started = exit-started;
     rows = exit-rows;
@@ -173,7 +173,7 @@ module _ (s : State) (m : Memory) (t : ℕ) (g : Good s) (ok : ExitOk s m t) (b 
         (λ d. left-parents a (eqb-false a (currentAt s t) d));
   }
 
-  pub same-exit : Same (exitState s t) (bookExit b t)
+  pub same-exit : Same (exitState s t) (historyExit b t)
   same-exit =
       by-top s t
       exit-same-low
@@ -183,7 +183,7 @@ module _ (s : State) (m : Memory) (t : ℕ) (g : Good s) (ok : ExitOk s m t) (b 
 
 -- ---- words are given
 
-pub same-make : (s : State) (m : Memory) (t q r : ℕ) → Good s → MakeOk s m t q r → (b : Book) → Same s b → Same (makeState s q r) b
+pub same-make : (s : State) (m : Memory) (t q r : ℕ) → Good s → MakeOk s m t q r → (b : History) → Same s b → Same (makeState s q r) b
 unfolding makeState withTaken withArea
 same-make s m t q r g ok b e = record {
   started = e .started;
@@ -191,9 +191,9 @@ same-make s m t q r g ok b e = record {
   parents = λ a. number-kept s (parts-of s g) q (madeArea (areaAt s q) (s .taken) r) (ok .area) (λ (x : Area). x .parent) refl a ∙ e .parents a;
 }
 
-pub same-allocate : (s : State) (m : Memory) (t slots words : ℕ) → Good s → AllocateOk s m t slots words → (b : Book) (o : Object) → Same s b
-    → Same (allocateState s (currentAt s t) slots words) (bookAllocate b t o)
-unfolding allocateState withArea bookAllocate
+pub same-allocate : (s : State) (m : Memory) (t slots words : ℕ) → Good s → AllocateOk s m t slots words → (b : History) (o : Object) → Same s b
+    → Same (allocateState s (currentAt s t) slots words) (historyAllocate b t o)
+unfolding allocateState withArea historyAllocate
 same-allocate s m t slots words g ok b o e = record {
   started = e .started;
   rows = e .rows;
@@ -203,7 +203,7 @@ same-allocate s m t slots words g ok b o e = record {
 
 -- ---- any accepted call
 
-pub same-call : (s : State) (m : Memory) (b : Book) (c : Call) (v : ℕ) → Good s → Same s b → callStatus s m c ≡ 0 → Same (callState s c) (bookStep b c v)
+pub same-call : (s : State) (m : Memory) (b : History) (c : Call) (v : ℕ) → Good s → Same s b → callStatus s m c ≡ 0 → Same (callState s c) (historyStep b c v)
 same-call s m b (start t p) v g e z =
     let ok = start-ok s m t p z in
     unfold startState in same-kind s g b e t (ok .thread) (idle-empty s m t p g ok) p true (lt-ltb 0 p (ok .some))

@@ -12,7 +12,7 @@ use Rattle.layout.specs.Stack.{down}
 use Rattle.layout.specs.StackLaws.{length-down}
 use Rattle.model.specs.State.{State, areaAt, rowAt, threadAt, stackAt, current, innermost, displayAt}
 use Rattle.model.specs.Objects.{currentAt}
-use Rattle.model.specs.Book.{occurrences, total}
+use Rattle.model.specs.History.{occurrences, total}
 use Rattle.model.specs.Claims.{InOrder, none, keep, skip}
 use Rattle.model.specs.Invariant.{scopesOf, Nested, Nesting, parentIn, stacksIn, Good}
 use Rattle.model.proofs.Lists.{occ-le-total, on-one, occ-same}

@@ -24,19 +24,19 @@ use Rattle.model.specs.Calls.{Call, start, end, make, enter, exit, alloc
 use Rattle.model.specs.Run.{run, World, kept, step, begin, Element}
 
 -- 4 words each of heap and immortal, 16 of scratch
-lent : Memory
-lent = record { permanent = replicate 8 0; scratch = replicate 16 0; map = replicate 1 0 }
+supplied : Memory
+supplied = record { permanent = replicate 8 0; scratch = replicate 16 0; map = replicate 1 0 }
 
 -- the same with a scratch store that is one word short
 short : Memory
 short = record { permanent = replicate 8 0; scratch = replicate 15 0; map = replicate 1 0 }
 
 calls : List Call → List Element
-calls cs = map (λ (c : Call). record { call = c; lent = kept }) cs
+calls cs = map (λ (c : Call). record { call = c; supplied = kept }) cs
 
 -- after a list of calls from set-up
 after : List Call → World
-after cs = run (begin 4 4 lent) (calls cs)
+after cs = run (begin 4 4 supplied) (calls cs)
 
 -- the status of one more call
 next : World → Call → ℕ
@@ -96,5 +96,5 @@ pub further : table
     ∷ (0 ∷ 2 ∷ 13 ∷ [])
     ∷ (1 ∷ 0 ∷ 8 ∷ 12 ∷ [])
     ∷ []
-unfolding lent short calls after next used shared worn-out refused none without table run handleOf offsetOf areaOf generationOf headerOf slotsOf dataOf refuse bitAt withBit withoutBit cleared classOf rightsRows rightDigit allows rowHolds down withArea withRow withThread withTaken stackOf innermost isMade displayHolds withStore setUpStatus firstState setUpState fits admit hasRight live isObject isReference useStatus startStatus startState endStatus endState makeStatus makeState otherParent worn enterStatus enteredArea pushed enterState enterValue exitStatus leftArea popped exitState exitValue allocateStatus allocateState filled objectWords objectBits allocateMemory allocateValue mayRefer storeAfter slotStatus referenceStatus storeStatus loadStatus dataStatus viewStatus viewWords outcomeOf step begin
+unfolding supplied short calls after next used shared worn-out refused none without table run handleOf offsetOf areaOf generationOf headerOf slotsOf dataOf refuse bitAt withBit withoutBit cleared classOf rightsRows rightDigit allows rowHolds down withArea withRow withThread withTaken stackOf innermost isMade displayHolds withStore setUpStatus firstState setUpState fits admit hasRight live isObject isReference useStatus startStatus startState endStatus endState makeStatus makeState otherParent worn enterStatus enteredArea pushed enterState enterValue exitStatus leftArea popped exitState exitValue allocateStatus allocateState filled objectWords objectBits allocateMemory allocateValue mayRefer storeAfter slotStatus referenceStatus storeStatus loadStatus dataStatus viewStatus viewWords outcomeOf step begin
 further = refl

@@ -15,7 +15,7 @@ use Rattle.model.specs.declared.Lengths.{Lengths}
 use Rattle.model.specs.State.{State, Memory, noArea, noThread, areaAt, stackOf}
 use Rattle.model.specs.SetUp.{setUpStatus, newThread, firstState, setUpState}
 use Rattle.model.specs.Calls.{Call, start, end, make, enter, exit, allocate, store, load, write, read, view, viewed, callStatus, callState, outcomeOf}
-use Rattle.model.specs.Book.{occurrences, total}
+use Rattle.model.specs.History.{occurrences, total}
 use Rattle.model.specs.Invariant.{scopesOf, ThreadGood, StandingGood, ScopeGood, Placed, stacksIn, Good}
 use Rattle.model.proofs.Accepted.{start-ok, end-ok, make-ok, enter-ok, exit-ok, allocate-ok}
 use Rattle.model.proofs.Lists.{each-replicate}

@@ -12,7 +12,7 @@ use Rattle.model.specs.State.{State, Memory, noArea}
 use Rattle.model.specs.SetUp.{lengthsOf, setUpStatus, firstState}
 use Rattle.model.specs.Checks.{fits}
 use Rattle.model.specs.Calls.{Call, start, end, make, enter, exit, allocate, store, load, write, read, view, viewed, callStatus, callValue, callState, callMemory}
-use Rattle.model.specs.Book.{Book, blank, bookStep}
+use Rattle.model.specs.History.{History, blank, historyStep}
 use Rattle.model.specs.Invariant.{Good}
 use Rattle.model.proofs.Accepted.{make-ok, enter-ok, exit-ok, allocate-ok, StoreOk, store-ok, DataOk, data-ok}
 use Rattle.model.proofs.Lists.{occ-nil}
@@ -21,8 +21,8 @@ use Rattle.model.proofs.MemoryScopes.{sound-start, sound-end, sound-mak
 use Rattle.model.proofs.MemoryWords.{sound-store, sound-write}
 use Rattle.model.proofs.MemoryObjects.{sound-allocate}
 
-pub sound-call : (s : State) (m : Memory) (b : Book) (c : Call) → Sound s m b → callStatus s m c ≡ 0 → Good (callState s c)
-    → Same (callState s c) (bookStep b c (callValue s m c)) → Sound (callState s c) (callMemory s m c) (bookStep b c (callValue s m c))
+pub sound-call : (s : State) (m : Memory) (b : History) (c : Call) → Sound s m b → callStatus s m c ≡ 0 → Good (callState s c)
+    → Same (callState s c) (historyStep b c (callValue s m c)) → Sound (callState s c) (callMemory s m c) (historyStep b c (callValue s m c))
 sound-call s m b (start t p) o e g i = sound-start s m b o t p g i
 sound-call s m b (end t) o e g i = sound-end s m b o t g i
 sound-call s m b (make t q r) o e g i = sound-make s m b o t q r (make-ok s m t q r e) g i
@@ -61,7 +61,7 @@ unfolding blank
 sound-first h i m e g k = record {
   good = g;
   same = k;
-  lent = first-fits h i m;
+  supplied = first-fits h i m;
   memory = record { tiles = λ a l. first-used h i m a; closed = λ a l n z. refl };
   dead = λ x p. absurd (omega (arith, occ-nil x));
   above = λ a l. refl;

@@ -12,7 +12,7 @@ use lib.Seq.{getD-set-same, getD-set-other}
 use borrow.Author.Tests.{ltb-true, ltb-false, leb-true, leb-false, eqb-true, eqb-false, eq-eqb, ne-eqb, le-leb, lt-leb}
 use Rattle.layout.specs.Choice.{cases}
 use Rattle.model.specs.State.{current, innermost}
-use Rattle.model.specs.Book.{occurrences, total}
+use Rattle.model.specs.History.{occurrences, total}
 use Rattle.model.specs.Invariant.{scopesOf, Each}
 
 -- the innermost scope is the first of a row's scopes

@@ -13,7 +13,7 @@ use Rattle.layout.specs.Header.{headerOf, slotsOf, dataOf}
 use Rattle.layout.specs.HandleLaws.{packed, area-lt, area-packed, generation-packed, slots-packed, data-packed}
 use Rattle.model.specs.State.{State, Memory, isOpen, displayAt, wordAt}
 use Rattle.model.specs.Checks.{headerAt, live}
-use Rattle.model.specs.Book.{Object, Book, occurrences, handles}
+use Rattle.model.specs.History.{Object, History, occurrences, handles}
 use Rattle.model.specs.Invariant.{countIn}
 use Rattle.model.proofs.Lists.{occ-nil}
 use Rattle.model.proofs.Tiles.{place, Tile, tiled-at, tiled-has}
@@ -21,7 +21,7 @@ use Rattle.model.proofs.Memory.{Ok}
 use Rattle.model.proofs.Sound.{usedIn, generationIn, bitIn, Dead, Sound}
 use Rattle.model.proofs.PlacedWords.{room}
 
-module _ (s : State) (m : Memory) (b : Book) (o : Sound s m b) where
+module _ (s : State) (m : Memory) (b : History) (o : Sound s m b) where
   -- an object of area a, with its tile
   pub object-tile : (a : ℕ) → a < 64 → (h : ℕ) → 0 < occurrences h (handles (b .objects a))
       → (x : Object) × (n : ℕ) × (x .handle ≡ h)

@@ -11,7 +11,7 @@ use borrow.Author.Tests.{eqb-true, eqb-false, eq-eqb, ne-eqb}
 use Rattle.layout.specs.Choice.{cases}
 use Rattle.layout.specs.Handle.{handleOf, areaOf}
 use Rattle.layout.specs.Header.{headerOf}
-use Rattle.model.specs.Book.{Object, occurrences, handles, putAt}
+use Rattle.model.specs.History.{Object, occurrences, handles, putAt}
 use Rattle.model.proofs.Lists.{occ-same, occ-other}
 use Rattle.model.proofs.Tiles.{place, Tile, Tiled, tiled-frame, tiled-store, tiled-data, tiled-push}
 
@@ -28,8 +28,8 @@ pub record Named (objects : ℕ → List Object) (dis : ℕ → List ℕ) (a w :
 abbrev pub Ok : (ℕ → List Object) → (ℕ → List ℕ) → ℕ → ℕ → Type 0
 Ok objects dis a w = (w ≡ 0) ⊎ Named objects dis a w
 
-pub record Mem (dis : ℕ → List ℕ) (cnt used turn : ℕ → ℕ) (wd : ℕ → ℕ → ℕ) (bit : ℕ → ℕ → Bool) (objects : ℕ → List Object) : Type 0 where
-  pub tiles : (a : ℕ) → a < 64 → Tiled (wd a) (bit a) (Ok objects dis a) (λ o. handleOf o a (turn a)) (objects a) (used a)
+pub record Mem (dis : ℕ → List ℕ) (cnt used generation : ℕ → ℕ) (wd : ℕ → ℕ → ℕ) (bit : ℕ → ℕ → Bool) (objects : ℕ → List Object) : Type 0 where
+  pub tiles : (a : ℕ) → a < 64 → Tiled (wd a) (bit a) (Ok objects dis a) (λ o. handleOf o a (generation a)) (objects a) (used a)
   pub closed : (a : ℕ) → 2 ≤ a → a < 64 → cnt a ≡ 0 → objects a ≡ []
 
 pub ok-frame : (objects objects′ : ℕ → List Object) (dis dis′ : ℕ → List ℕ) (a : ℕ)
@@ -45,9 +45,9 @@ unfolding putAt
 put-other f q v a h = rw (ne-eqb a q h)
 
 -- an area after a call that writes no word: it is as it was, or it has no object
-pub record Kept (dis dis′ : ℕ → List ℕ) (used used′ turn turn′ : ℕ → ℕ) (objects objects′ : ℕ → List Object) (a : ℕ) : Type 0 where
+pub record Kept (dis dis′ : ℕ → List ℕ) (used used′ generation generation′ : ℕ → ℕ) (objects objects′ : ℕ → List Object) (a : ℕ) : Type 0 where
   pub used-same : used′ a ≡ used a
-  pub turn-same : turn′ a ≡ turn a
+  pub generation-same : generation′ a ≡ generation a
   pub objects-same : objects′ a ≡ objects a
   pub names : (w : ℕ) → Named objects dis a w → Named objects′ dis′ a w
 
@@ -55,85 +55,85 @@ pub record Bare (used : ℕ → ℕ) (objects : ℕ → List Object) (a : ℕ) :
   pub none-used : used a ≡ 0
   pub no-objects : objects a ≡ []
 
-pub mem-nest : {dis : ℕ → List ℕ} {cnt used turn : ℕ → ℕ} {wd : ℕ → ℕ → ℕ} {bit : ℕ → ℕ → Bool} {objects : ℕ → List Object} → Mem dis cnt used turn wd bit objects
-    → (dis′ : ℕ → List ℕ) (cnt′ used′ turn′ : ℕ → ℕ) (objects′ : ℕ → List Object)
-    → ((a : ℕ) → a < 64 → Kept dis dis′ used used′ turn turn′ objects objects′ a ⊎ Bare used′ objects′ a)
+pub mem-nest : {dis : ℕ → List ℕ} {cnt used generation : ℕ → ℕ} {wd : ℕ → ℕ → ℕ} {bit : ℕ → ℕ → Bool} {objects : ℕ → List Object} → Mem dis cnt used generation wd bit objects
+    → (dis′ : ℕ → List ℕ) (cnt′ used′ generation′ : ℕ → ℕ) (objects′ : ℕ → List Object)
+    → ((a : ℕ) → a < 64 → Kept dis dis′ used used′ generation generation′ objects objects′ a ⊎ Bare used′ objects′ a)
     → ((a : ℕ) → 2 ≤ a → a < 64 → cnt′ a ≡ 0 → objects′ a ≡ [])
-    → Mem dis′ cnt′ used′ turn′ wd bit objects′
-mem-nest {dis} {cnt} {used} {turn} {wd} {bit} {objects} m dis′ cnt′ used′ turn′ objects′ f c = record {
+    → Mem dis′ cnt′ used′ generation′ wd bit objects′
+mem-nest {dis} {cnt} {used} {generation} {wd} {bit} {objects} m dis′ cnt′ used′ generation′ objects′ f c = record {
   tiles = λ a h. ⊎-elim (λ k. kept a h k) (λ k. bare a k) (f a h);
   closed = c;
 }
   where
-    bare : (a : ℕ) → Bare used′ objects′ a → Tiled (wd a) (bit a) (Ok objects′ dis′ a) (λ o. handleOf o a (turn′ a)) (objects′ a) (used′ a)
+    bare : (a : ℕ) → Bare used′ objects′ a → Tiled (wd a) (bit a) (Ok objects′ dis′ a) (λ o. handleOf o a (generation′ a)) (objects′ a) (used′ a)
     bare a k = rw (k .no-objects) (k .none-used)
 
-    kept : (a : ℕ) → a < 64 → Kept dis dis′ used used′ turn turn′ objects objects′ a → Tiled (wd a) (bit a) (Ok objects′ dis′ a) (λ o. handleOf o a (turn′ a)) (objects′ a) (used′ a)
-    kept a h k = rw (k .objects-same, k .used-same, k .turn-same)
-        (tiled-frame (wd a) (wd a) (bit a) (bit a) (Ok objects dis a) (Ok objects′ dis′ a) (λ o. handleOf o a (turn a)) (objects a) (used a)
+    kept : (a : ℕ) → a < 64 → Kept dis dis′ used used′ generation generation′ objects objects′ a → Tiled (wd a) (bit a) (Ok objects′ dis′ a) (λ o. handleOf o a (generation′ a)) (objects′ a) (used′ a)
+    kept a h k = rw (k .objects-same, k .used-same, k .generation-same)
+        (tiled-frame (wd a) (wd a) (bit a) (bit a) (Ok objects dis a) (Ok objects′ dis′ a) (λ o. handleOf o a (generation a)) (objects a) (used a)
         (λ j p. refl) (λ j p. refl) (ok-frame objects objects′ dis dis′ a (k .names)) (m .tiles a h))
 
-module _ {dis : ℕ → List ℕ} {cnt used turn : ℕ → ℕ} {wd : ℕ → ℕ → ℕ} {bit : ℕ → ℕ → Bool} {objects : ℕ → List Object} (m : Mem dis cnt used turn wd bit objects) where
+module _ {dis : ℕ → List ℕ} {cnt used generation : ℕ → ℕ} {wd : ℕ → ℕ → ℕ} {bit : ℕ → ℕ → Bool} {objects : ℕ → List Object} (m : Mem dis cnt used generation wd bit objects) where
   -- the same, seen through other functions
-  pub mem-cong : (dis′ : ℕ → List ℕ) (cnt′ used′ turn′ : ℕ → ℕ) → ((a : ℕ) → dis′ a ≡ dis a) → ((a : ℕ) → cnt′ a ≡ cnt a)
-      → ((a : ℕ) → used′ a ≡ used a) → ((a : ℕ) → turn′ a ≡ turn a) → Mem dis′ cnt′ used′ turn′ wd bit objects
-  mem-cong dis′ cnt′ used′ turn′ d c u t =
-      subst₂ (λ (x : ℕ → List ℕ) (y : ℕ → ℕ). Mem x y used′ turn′ wd bit objects) (fun-ext (λ a. sym (d a))) (fun-ext (λ a. sym (c a)))
+  pub mem-cong : (dis′ : ℕ → List ℕ) (cnt′ used′ generation′ : ℕ → ℕ) → ((a : ℕ) → dis′ a ≡ dis a) → ((a : ℕ) → cnt′ a ≡ cnt a)
+      → ((a : ℕ) → used′ a ≡ used a) → ((a : ℕ) → generation′ a ≡ generation a) → Mem dis′ cnt′ used′ generation′ wd bit objects
+  mem-cong dis′ cnt′ used′ generation′ d c u t =
+      subst₂ (λ (x : ℕ → List ℕ) (y : ℕ → ℕ). Mem x y used′ generation′ wd bit objects) (fun-ext (λ a. sym (d a))) (fun-ext (λ a. sym (c a)))
       (subst₂ (λ (x y : ℕ → ℕ). Mem dis cnt x y wd bit objects) (fun-ext (λ a. sym (u a))) (fun-ext (λ a. sym (t a))) m)
 
   -- the used words are as they were
   pub mem-frame : (wd′ : ℕ → ℕ → ℕ) (bit′ : ℕ → ℕ → Bool)
-      → ((a j : ℕ) → a < 64 → j < used a → wd′ a j ≡ wd a j) → ((a j : ℕ) → a < 64 → j < used a → bit′ a j ≡ bit a j) → Mem dis cnt used turn wd′ bit′ objects
+      → ((a j : ℕ) → a < 64 → j < used a → wd′ a j ≡ wd a j) → ((a j : ℕ) → a < 64 → j < used a → bit′ a j ≡ bit a j) → Mem dis cnt used generation wd′ bit′ objects
   mem-frame wd′ bit′ f g = record {
-    tiles = λ a h. tiled-frame (wd a) (wd′ a) (bit a) (bit′ a) (Ok objects dis a) (Ok objects dis a) (λ o. handleOf o a (turn a)) (objects a) (used a)
+    tiles = λ a h. tiled-frame (wd a) (wd′ a) (bit a) (bit′ a) (Ok objects dis a) (Ok objects dis a) (λ o. handleOf o a (generation a)) (objects a) (used a)
         (λ j i. f a j h i) (λ j i. g a j h i) (λ w x. x) (m .tiles a h);
     closed = m .closed;
   }
 
   -- one word of area b is replaced, at an offset where no object starts, by one that a slot there may hold
   pub mem-store : (b p : ℕ) (wd′ : ℕ → ℕ → ℕ) → bit b p ≡ false → Ok objects dis b (wd′ b p)
-      → ((a j : ℕ) → a < 64 → j < used a → (a ≡ b → j ≡ p → ⊥) → wd′ a j ≡ wd a j) → Mem dis cnt used turn wd′ bit objects
+      → ((a j : ℕ) → a < 64 → j < used a → (a ≡ b → j ≡ p → ⊥) → wd′ a j ≡ wd a j) → Mem dis cnt used generation wd′ bit objects
   mem-store b p wd′ e k f = record {
     tiles = λ a h. cases (eqb a b)
         (λ q. here a h (eqb-true a b q))
-        (λ q. tiled-frame (wd a) (wd′ a) (bit a) (bit a) (Ok objects dis a) (Ok objects dis a) (λ o. handleOf o a (turn a)) (objects a) (used a)
+        (λ q. tiled-frame (wd a) (wd′ a) (bit a) (bit a) (Ok objects dis a) (Ok objects dis a) (λ o. handleOf o a (generation a)) (objects a) (used a)
         (λ j i. f a j h i (λ x y. eqb-false a b q x)) (λ j i. refl) (λ w x. x) (m .tiles a h));
     closed = m .closed;
   }
     where
-      here : (a : ℕ) → a < 64 → a ≡ b → Tiled (wd′ a) (bit a) (Ok objects dis a) (λ o. handleOf o a (turn a)) (objects a) (used a)
-      here a h q = tiled-store (wd a) (wd′ a) (bit a) (Ok objects dis a) (λ o. handleOf o a (turn a)) p (rw q e) (rw q k) (objects a) (used a)
+      here : (a : ℕ) → a < 64 → a ≡ b → Tiled (wd′ a) (bit a) (Ok objects dis a) (λ o. handleOf o a (generation a)) (objects a) (used a)
+      here a h q = tiled-store (wd a) (wd′ a) (bit a) (Ok objects dis a) (λ o. handleOf o a (generation a)) p (rw q e) (rw q k) (objects a) (used a)
           (λ j i ne. f a j h i (λ x y. ne y)) (m .tiles a h)
 
   -- one word of area b is replaced, a data word of the object with handle h
   pub mem-data : (b p h : ℕ) (wd′ : ℕ → ℕ → ℕ)
       → ((o : Object) → o .handle ≡ h → wd b (place o) ≡ headerOf (o .slots) (o .words) → o .slots + o .words < 16384 → (place o + o .slots < p) × (p ≤ place o + o .slots + o .words))
       → used b ≤ 16384 → 0 < occurrences h (handles (objects b))
-      → ((a j : ℕ) → a < 64 → j < used a → (a ≡ b → j ≡ p → ⊥) → wd′ a j ≡ wd a j) → Mem dis cnt used turn wd′ bit objects
+      → ((a j : ℕ) → a < 64 → j < used a → (a ≡ b → j ≡ p → ⊥) → wd′ a j ≡ wd a j) → Mem dis cnt used generation wd′ bit objects
   mem-data b p h wd′ d y k f = record {
     tiles = λ a l. cases (eqb a b)
         (λ q. here a l (eqb-true a b q))
-        (λ q. tiled-frame (wd a) (wd′ a) (bit a) (bit a) (Ok objects dis a) (Ok objects dis a) (λ o. handleOf o a (turn a)) (objects a) (used a)
+        (λ q. tiled-frame (wd a) (wd′ a) (bit a) (bit a) (Ok objects dis a) (Ok objects dis a) (λ o. handleOf o a (generation a)) (objects a) (used a)
         (λ j i. f a j l i (λ x y. eqb-false a b q x)) (λ j i. refl) (λ w x. x) (m .tiles a l));
     closed = m .closed;
   }
     where
-      here : (a : ℕ) → a < 64 → a ≡ b → Tiled (wd′ a) (bit a) (Ok objects dis a) (λ o. handleOf o a (turn a)) (objects a) (used a)
-      here a l q = tiled-data (wd a) (wd′ a) (bit a) (Ok objects dis a) (λ o. handleOf o a (turn a)) p h (rw q d) (objects a) (used a) (rw q y)
+      here : (a : ℕ) → a < 64 → a ≡ b → Tiled (wd′ a) (bit a) (Ok objects dis a) (λ o. handleOf o a (generation a)) (objects a) (used a)
+      here a l q = tiled-data (wd a) (wd′ a) (bit a) (Ok objects dis a) (λ o. handleOf o a (generation a)) p h (rw q d) (objects a) (used a) (rw q y)
           (λ j i ne. f a j l i (λ x y. ne y)) (rw q k) (m .tiles a l)
 
   -- an object is made on first of area b
   pub mem-alloc : (b : ℕ) (o : Object) (used′ : ℕ → ℕ) (wd′ : ℕ → ℕ → ℕ) (bit′ : ℕ → ℕ → Bool) → b < 64
       → (2 ≤ b → 0 < cnt b)
       → place o ≡ used b → used′ b ≡ suc (used b + o .slots + o .words) → ((a : ℕ) → a ≢ b → used′ a ≡ used a)
-      → Tile (wd′ b) (bit′ b) (λ w. w ≡ 0) (λ x. handleOf x b (turn b)) o (suc (used b + o .slots + o .words))
+      → Tile (wd′ b) (bit′ b) (λ w. w ≡ 0) (λ x. handleOf x b (generation b)) o (suc (used b + o .slots + o .words))
       → ((a j : ℕ) → a < 64 → j < used a → wd′ a j ≡ wd a j) → ((a j : ℕ) → a < 64 → j < used a → bit′ a j ≡ bit a j)
-      → Mem dis cnt used′ turn wd′ bit′ (putAt objects b (o ∷ objects b))
+      → Mem dis cnt used′ generation wd′ bit′ (putAt objects b (o ∷ objects b))
   mem-alloc b o used′ wd′ bit′ hb ob pl us uo t f g = record {
     tiles = λ a h. cases (eqb a b)
         (λ q. rw (eqb-true a b q) here)
         (λ q. rw (put-other objects b (o ∷ objects b) a (eqb-false a b q), uo a (eqb-false a b q))
-        (tiled-frame (wd a) (wd′ a) (bit a) (bit′ a) (Ok objects dis a) (Ok next dis a) (λ x. handleOf x a (turn a)) (objects a) (used a)
+        (tiled-frame (wd a) (wd′ a) (bit a) (bit′ a) (Ok objects dis a) (Ok next dis a) (λ x. handleOf x a (generation a)) (objects a) (used a)
         (λ j i. f a j h i) (λ j i. g a j h i) (ok-frame objects next dis dis a (names a)) (m .tiles a h)));
     closed = λ a h k z. cases (eqb a b)
         (λ q. absurd (omega (arith, ob (rw (eqb-true a b q) at h), ap cnt (eqb-true a b q))))
@@ -156,10 +156,10 @@ module _ {dis : ℕ → List ℕ} {cnt used turn : ℕ → ℕ} {wd : ℕ → �
               (λ d. rw (eqb-true (o .handle) w d, occ-same w (handles (objects b))) (omega arith))
               (λ d. rw (occ-other w (o .handle) (handles (objects b)) (eqb-false (o .handle) w d)) p)
 
-      tile : Tile (wd′ b) (bit′ b) (Ok next dis b) (λ x. handleOf x b (turn b)) o (suc (used b + o .slots + o .words))
+      tile : Tile (wd′ b) (bit′ b) (Ok next dis b) (λ x. handleOf x b (generation b)) o (suc (used b + o .slots + o .words))
       tile = record { made = t .made; ends = t .ends; head = t .head; on = t .on; off = t .off; refs = λ j h. inl (t .refs j h) }
 
-      here : Tiled (wd′ b) (bit′ b) (Ok next dis b) (λ x. handleOf x b (turn b)) (next b) (used′ b)
+      here : Tiled (wd′ b) (bit′ b) (Ok next dis b) (λ x. handleOf x b (generation b)) (next b) (used′ b)
       here = rw (put-same objects b (o ∷ objects b), us)
-          (tiled-push (wd b) (wd′ b) (bit b) (bit′ b) (Ok objects dis b) (Ok next dis b) (λ x. handleOf x b (turn b)) (objects b) (used b) o
+          (tiled-push (wd b) (wd′ b) (bit b) (bit′ b) (Ok objects dis b) (Ok next dis b) (λ x. handleOf x b (generation b)) (objects b) (used b) o
           (λ j i. f b j hb i) (λ j i. g b j hb i) (ok-frame objects next dis dis b (names b)) pl tile (m .tiles b hb))

@@ -14,7 +14,7 @@ use Rattle.layout.specs.Header.{slotsOf}
 use Rattle.model.specs.State.{State, Memory, displayAt, wordAt}
 use Rattle.model.specs.Checks.{fits, isStarted, admit, hasRight, headerAt, live, isObject, isReference, useStatus}
 use Rattle.model.specs.References.{wordAfter, slotStatus, referenceStatus, loadStatus}
-use Rattle.model.specs.Book.{Object, Book, occurrences, handles}
+use Rattle.model.specs.History.{Object, History, occurrences, handles}
 use Rattle.model.specs.Claims.{In, first, later}
 use Rattle.model.proofs.Lists.{occ-same, occ-other}
 use Rattle.model.proofs.Tiles.{Tile, tiled-in}
@@ -49,7 +49,7 @@ or-second : (x y : Bool) → y ≡ true → x || y ≡ true
 or-second true y e = refl
 or-second false y e = e
 
-module _ (s : State) (m : Memory) (b : Book) (o : Sound s m b) where
+module _ (s : State) (m : Memory) (b : History) (o : Sound s m b) where
   -- an object's tile
   tile-of : (a : ℕ) (x : Object) → a < 64 → In x (b .objects a)
       → (n : ℕ) × Tile (wordAt s m a) (bitIn s m a) (Ok (b .objects) (displayAt s) a) (λ y. handleOf y a (generationIn s a)) x n × (n ≤ usedIn s a)

@@ -16,7 +16,7 @@ use Rattle.layout.specs.HandleLaws.{area-lt}
 use Rattle.model.specs.declared.Area.{Area}
 use Rattle.model.specs.State.{State, Memory, areaAt, rowAt, displayAt, storeOf, wordAt}
 use Rattle.model.specs.Checks.{fits}
-use Rattle.model.specs.Book.{Object, Book, occurrences, handles, putAt}
+use Rattle.model.specs.History.{Object, History, occurrences, handles, putAt}
 use Rattle.model.specs.Invariant.{countIn, Good}
 use Rattle.model.proofs.Lists.{occ-nil, occ-append}
 use Rattle.model.proofs.Nesting.{shown-open}
@@ -83,7 +83,7 @@ dead-on s n h v d = record {
       (λ e. omega (arith, d .old, v .fresh p (omega (arith, ltb-false 0 (countIn s (areaOf h)) e))));
 }
 
-module _ (s : State) (m : Memory) (b : Book) (o : Sound s m b) (n : State) (c : Book) (g : Good n) (i : Same n c) (ln : n .lengths ≡ s .lengths)
+module _ (s : State) (m : Memory) (b : History) (o : Sound s m b) (n : State) (c : History) (g : Good n) (i : Same n c) (ln : n .lengths ≡ s .lengths)
     (mv : (a : ℕ) → Moved (areaAt s a) (areaAt n a)) where
   word-stays : (a j : ℕ) → a < 64 → j < usedIn s a → wordAt n m a j ≡ wordAt s m a j
   word-stays a j h p = ap (λ (x : ℕ). getD (storeOf m a) (x + j) 0) (mv a .start (omega arith))
@@ -93,9 +93,9 @@ module _ (s : State) (m : Memory) (b : Book) (o : Sound s m b) (n : State) (c : 
       let e : areaAt n a .start ≡ areaAt s a .start = mv a .start (omega arith) in
       rw (e, ln)
 
-  lent-still : fits n m ≡ true
+  supplied-still : fits n m ≡ true
   unfolding fits
-  lent-still = rw ln (o .lent)
+  supplied-still = rw ln (o .supplied)
 
   sound-kept : (os : ℕ → List Object) (gs : List ℕ) → c .objects ≡ os → c .gone ≡ gs
       → ((a : ℕ) → a < 64 → Kept (displayAt s) (displayAt n) (usedIn s) (usedIn n) (generationIn s) (generationIn n) (b .objects) os a ⊎ Bare (usedIn n) os a)
@@ -106,7 +106,7 @@ module _ (s : State) (m : Memory) (b : Book) (o : Sound s m b) (n : State) (c : 
   sound-kept os gs eo eg kp cl gn ab = record {
     good = g;
     same = i;
-    lent = lent-still;
+    supplied = supplied-still;
     memory = rw eo (mem-nest (mem-frame (o .memory) (wordAt n m) (bitIn n m) word-stays bit-stays) (displayAt n) (countIn n) (usedIn n) (generationIn n) os kp cl);
     dead = rw eg (λ h p. ⊎-elim (λ q. dead-on s n h (mv (areaOf h)) (o .dead h q)) (λ d. d) (gn h p));
     above = rw eo ab;
@@ -115,7 +115,7 @@ module _ (s : State) (m : Memory) (b : Book) (o : Sound s m b) (n : State) (c : 
   kept : (a : ℕ) → Still s n a → Kept (displayAt s) (displayAt n) (usedIn s) (usedIn n) (generationIn s) (generationIn n) (b .objects) (b .objects) a
   kept a z = record {
     used-same = z .used;
-    turn-same = z .generation;
+    generation-same = z .generation;
     objects-same = refl;
     names = λ x y. record { given = y .given; reach = ⊎-elim (λ r. inl r) (λ r. inr (r .0, rw (ap (occurrences (areaOf x)) (z .shown)) (r .1))) (y .reach) };
   }
@@ -174,7 +174,7 @@ module _ (s : State) (m : Memory) (b : Book) (o : Sound s m b) (n : State) (c : 
         → Kept (displayAt s) (displayAt n) (usedIn s) (usedIn n) (generationIn s) (generationIn n) (b .objects) (putAt (b .objects) q []) a
     shut-kept a h ne op = record {
       used-same = still-same (f a ne) .used;
-      turn-same = still-same (f a ne) .generation;
+      generation-same = still-same (f a ne) .generation;
       objects-same = put-other (b .objects) q [] a ne;
       names = λ x y. still-named a x ne (elsewhere a x h ne op y) y;
     }
@@ -187,7 +187,7 @@ module _ (s : State) (m : Memory) (b : Book) (o : Sound s m b) (n : State) (c : 
     shut-dead : (h : ℕ) → 0 < occurrences h (handles (b .objects q)) → Dead (countIn n) (generationIn n) h
     shut-dead h p = record {
       scope = rw is hq;
-      old = rw is (omega (arith, mv q .later, turned));
+      old = rw is (omega (arith, mv q .later, generation-is));
       past = λ w. absurd (omega (arith, ap (countIn n) is));
     }
       where
@@ -196,8 +196,8 @@ module _ (s : State) (m : Memory) (b : Book) (o : Sound s m b) (n : State) (c : 
             let t = object-tile s m b o q kq h p in
             ap areaOf (sym (t .2)) ∙ tile-parts s m b o q kq (t .3) (t .4) .0
 
-        turned : generationOf h ≡ generationIn s q
-        turned =
+        generation-is : generationOf h ≡ generationIn s q
+        generation-is =
             let t = object-tile s m b o q kq h p in
             ap generationOf (sym (t .2)) ∙ tile-parts s m b o q kq (t .3) (t .4) .1
 

@@ -20,7 +20,7 @@ use Rattle.model.specs.declared.Area.{Area}
 use Rattle.model.specs.State.{State, Memory, areaAt, displayAt, storeOf, withStore, wordAt, bitIndex}
 use Rattle.model.specs.Checks.{fits}
 use Rattle.model.specs.Objects.{currentAt, grown, filled, objectWords, objectBits, allocateState, allocateMemory, allocateValue}
-use Rattle.model.specs.Book.{Object, Book, putAt, bookAllocate}
+use Rattle.model.specs.History.{Object, History, putAt, historyAllocate}
 use Rattle.model.specs.Invariant.{countIn, Good}
 use Rattle.model.proofs.Accepted.{AllocateOk}
 use Rattle.model.proofs.Tiles.{place, Tile}
@@ -108,7 +108,7 @@ length-bits map at n = length-set (cleared map (suc at) n) _ _ ∙ length-cleare
 
 -- ---- an object on top of area c, which has room for it
 
-module _ (s : State) (m : Memory) (b : Book) (o : Sound s m b) (c slots words : ℕ) (hc : c < 64)
+module _ (s : State) (m : Memory) (b : History) (o : Sound s m b) (c slots words : ℕ) (hc : c < 64)
     (rm : suc (usedIn s c + slots + words) ≤ areaAt s c .size) where
   abbrev n : State
   n = allocateState s c slots words
@@ -141,10 +141,10 @@ module _ (s : State) (m : Memory) (b : Book) (o : Sound s m b) (c slots words : 
   clear a j p i w = omega (arith, ap (usedIn s) (w .0), w .1)
 
   words-in : suc (areaAt s c .start + usedIn s c + (slots + words)) ≤ length (storeOf m c)
-  words-in = omega (arith, word-in s m (o .good .placed) (o .lent) c hc (usedIn s c + slots + words) rm)
+  words-in = omega (arith, word-in s m (o .good .placed) (o .supplied) c hc (usedIn s c + slots + words) rm)
 
   bits-in : suc (bitIndex s c (usedIn s c) + (slots + words)) ≤ 64 * length (m .map)
-  bits-in = omega (arith, bit-in s m (o .good .placed) (o .lent) c hc (usedIn s c + slots + words) rm)
+  bits-in = omega (arith, bit-in s m (o .good .placed) (o .supplied) c hc (usedIn s c + slots + words) rm)
 
   word-other : (a j : ℕ) → a < 64 → j < usedIn s a → wordAt n k a j ≡ wordAt s m a j
   unfolding allocateMemory
@@ -198,17 +198,17 @@ module _ (s : State) (m : Memory) (b : Book) (o : Sound s m b) (c slots words : 
   fits-then : fits n k ≡ true
   unfolding fits allocateMemory
   fits-then = rw (to .lengths) (store-fits marked c (objectWords (storeOf m c) (areaAt s c .start + usedIn s c) slots words) s
-      (fits-also s m (o .lent) marked refl refl (length-bits (m .map) (bitIndex s c (usedIn s c)) (slots + words)))
+      (fits-also s m (o .supplied) marked refl refl (length-bits (m .map) (bitIndex s c (usedIn s c)) (slots + words)))
       (length-object (storeOf m c) (areaAt s c .start + usedIn s c) slots words))
 
   -- with a book that has it first among the objects of c
-  sound-made : (d : Book) → Good (allocateState s c slots words) → Same (allocateState s c slots words) d → (2 ≤ c → 0 < countIn s c)
+  sound-made : (d : History) → Good (allocateState s c slots words) → Same (allocateState s c slots words) d → (2 ≤ c → 0 < countIn s c)
       → d .objects ≡ putAt (b .objects) c (record { handle = allocateValue s c; slots = slots; words = words } ∷ b .objects c) → d .gone ≡ b .gone
       → Sound (allocateState s c slots words) (allocateMemory s m c slots words) d
   sound-made d g i oc eo eg = record {
     good = g;
     same = i;
-    lent = fits-then;
+    supplied = fits-then;
     memory = rw eo (mem-cong
         (mem-alloc (o .memory) c made (usedIn n) (wordAt n k) (bitIn n k) hc oc at-place (ap (λ (x : Area). x .used) (to .here))
         (λ a ne. ap (λ (x : Area). x .used) (to .others a ne .area)) tile word-other bit-other)
@@ -217,9 +217,9 @@ module _ (s : State) (m : Memory) (b : Book) (o : Sound s m b) (c slots words : 
     above = rw eo (λ a h. put-other (b .objects) c _ a (λ e. omega arith) ∙ o .above a h);
   }
 
-module _ (s : State) (m : Memory) (b : Book) (o : Sound s m b) (t slots words : ℕ) (ok : AllocateOk s m t slots words) where
-  abbrev next : Book
-  next = bookAllocate b t (record { handle = allocateValue s (currentAt s t); slots = slots; words = words })
+module _ (s : State) (m : Memory) (b : History) (o : Sound s m b) (t slots words : ℕ) (ok : AllocateOk s m t slots words) where
+  abbrev next : History
+  next = historyAllocate b t (record { handle = allocateValue s (currentAt s t); slots = slots; words = words })
 
   pub sound-allocate : Good (allocateState s (currentAt s t) slots words) → Same (allocateState s (currentAt s t) slots words) next
       → Sound (allocateState s (currentAt s t) slots words) (allocateMemory s m (currentAt s t) slots words) next
@@ -227,7 +227,7 @@ module _ (s : State) (m : Memory) (b : Book) (o : Sound s m b) (t slots words : 
       (current-open s (o .good) t (ok .called .thread)) objects-are gone-are
     where
       objects-are : next .objects ≡ putAt (b .objects) (currentAt s t) (record { handle = allocateValue s (currentAt s t); slots = slots; words = words } ∷ b .objects (currentAt s t))
-      objects-are = unfold bookAllocate in rw (← (stacks s b (o .good) (o .same) t))
+      objects-are = unfold historyAllocate in rw (← (stacks s b (o .good) (o .same) t))
 
       gone-are : next .gone ≡ b .gone
-      gone-are = unfold bookAllocate in refl
+      gone-are = unfold historyAllocate in refl

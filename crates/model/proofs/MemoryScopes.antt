@@ -13,7 +13,7 @@ use Rattle.model.specs.declared.Area.{Area}
 use Rattle.model.specs.State.{State, Memory, areaAt, threadAt, stackOf, stackAt, current, innermost}
 use Rattle.model.specs.Threads.{startState, endState}
 use Rattle.model.specs.Scopes.{madeArea, makeState, reentered, opened, enterState, left, popped, exitState}
-use Rattle.model.specs.Book.{Book, rowOf, total, handles, putAt, isScopeOnNone, bookStart, bookEnter, bookExit}
+use Rattle.model.specs.History.{History, rowOf, total, handles, putAt, isScopeOnNone, historyStart, historyEnter, historyExit}
 use Rattle.model.specs.Invariant.{countIn, Good}
 use Rattle.model.proofs.Accepted.{MakeOk, EnterOk, ExitOk}
 use Rattle.model.proofs.Sound.{Same, Sound}
@@ -22,19 +22,19 @@ use Rattle.model.proofs.Agrees.{row-top, left-count}
 use Rattle.model.proofs.Alters.{Stays, Alters, start-stays, end-stays, enter-low, exit-low, make-alters, make-rows, open-alters, open-rows, fresh-alters, left-alters, left-rows}
 use Rattle.model.proofs.MemoryKept.{Moved, moved-same, still-same, moved-all, still-all, count-all, sound-still, sound-opens, sound-shuts}
 
-module _ (s : State) (m : Memory) (b : Book) (o : Sound s m b) where
+module _ (s : State) (m : Memory) (b : History) (o : Sound s m b) where
   -- no area is touched, and no object
-  stays-sound : (n : State) (c : Book) → Good n → Same n c → Stays s n → c .objects ≡ b .objects → c .gone ≡ b .gone → Sound n m c
+  stays-sound : (n : State) (c : History) → Good n → Same n c → Stays s n → c .objects ≡ b .objects → c .gone ≡ b .gone → Sound n m c
   stays-sound n c g i k eo eg = sound-still s m b o n c g i (k .lengths) (λ a. moved-same (k .all a)) eo eg
       (λ a. still-same (k .all a)) (λ a z. sym (ap (λ (x : Area). x .count) (k .all a .area)) ∙ z)
 
-  pub sound-start : (t p : ℕ) → Good (startState s t p) → Same (startState s t p) (bookStart b t true) → Sound (startState s t p) m (bookStart b t true)
-  unfolding bookStart
-  sound-start t p g i = stays-sound (startState s t p) (bookStart b t true) g i (start-stays s t p) refl refl
+  pub sound-start : (t p : ℕ) → Good (startState s t p) → Same (startState s t p) (historyStart b t true) → Sound (startState s t p) m (historyStart b t true)
+  unfolding historyStart
+  sound-start t p g i = stays-sound (startState s t p) (historyStart b t true) g i (start-stays s t p) refl refl
 
-  pub sound-end : (t : ℕ) → Good (endState s t) → Same (endState s t) (bookStart b t false) → Sound (endState s t) m (bookStart b t false)
-  unfolding bookStart
-  sound-end t g i = stays-sound (endState s t) (bookStart b t false) g i (end-stays s t) refl refl
+  pub sound-end : (t : ℕ) → Good (endState s t) → Same (endState s t) (historyStart b t false) → Sound (endState s t) m (historyStart b t false)
+  unfolding historyStart
+  sound-end t g i = stays-sound (endState s t) (historyStart b t false) g i (end-stays s t) refl refl
 
   -- an area of no words has none used, so it may lie elsewhere
   pub sound-make : (t q r : ℕ) → MakeOk s m t q r → Good (makeState s q r) → Same (makeState s q r) b → Sound (makeState s q r) m b
@@ -51,39 +51,39 @@ module _ (s : State) (m : Memory) (b : Book) (o : Sound s m b) where
         fresh = λ p z. absurd (omega arith);
       }
 
-  module _ (t q : ℕ) (k : EnterOk s m t q) (g : Good (enterState s t q)) (i : Same (enterState s t q) (bookEnter b t q)) where
-    objects-same : bookEnter b t q .objects ≡ b .objects
-    unfolding bookEnter
+  module _ (t q : ℕ) (k : EnterOk s m t q) (g : Good (enterState s t q)) (i : Same (enterState s t q) (historyEnter b t q)) where
+    objects-same : historyEnter b t q .objects ≡ b .objects
+    unfolding historyEnter
     objects-same = refl
 
-    gone-same : bookEnter b t q .gone ≡ b .gone
-    unfolding bookEnter
+    gone-same : historyEnter b t q .gone ≡ b .gone
+    unfolding historyEnter
     gone-same = refl
 
-    sound-open : 2 ≤ q → 0 < countIn s q → Sound (enterState s t q) m (bookEnter b t q)
-    sound-open h c = sound-still s m b o (enterState s t q) (bookEnter b t q) g i (to .lengths)
+    sound-open : 2 ≤ q → 0 < countIn s q → Sound (enterState s t q) m (historyEnter b t q)
+    sound-open h c = sound-still s m b o (enterState s t q) (historyEnter b t q) g i (to .lengths)
         (moved-all to record { start = λ p. refl; later = omega arith; fresh = λ p z. absurd (omega arith) }) objects-same gone-same
         (still-all to (open-rows s (o .good .areas) q (k .area) t h c) refl refl refl) (count-all to (λ z. absurd (omega arith)))
       where
         to : Alters s (enterState s t q) q (reentered (areaAt s q))
         to = open-alters s (o .good .areas) q (k .area) t h c
 
-    sound-fresh : 2 ≤ q → countIn s q ≡ 0 → Sound (enterState s t q) m (bookEnter b t q)
-    sound-fresh h c = sound-opens s m b o (enterState s t q) (bookEnter b t q) g i (to .lengths)
+    sound-fresh : 2 ≤ q → countIn s q ≡ 0 → Sound (enterState s t q) m (historyEnter b t q)
+    sound-fresh h c = sound-opens s m b o (enterState s t q) (historyEnter b t q) g i (to .lengths)
         (moved-all to record { start = λ p. refl; later = omega arith; fresh = λ p z. omega arith }) objects-same gone-same
         q h (k .area) c (ap (λ (x : Area). x .used) (to .here)) (to .others)
       where
         to : Alters s (enterState s t q) q (opened (areaAt s q) (innermost (stackAt s t)) (areaAt s (innermost (stackAt s t)) .depth))
         to = fresh-alters s (o .good .areas) q (k .area) t h c
 
-    pub sound-enter : Sound (enterState s t q) m (bookEnter b t q)
+    pub sound-enter : Sound (enterState s t q) m (historyEnter b t q)
     sound-enter = cases (leb 2 q)
         (λ d. cases (ltb 0 (countIn s q))
         (λ c. sound-open (leb-true 2 q d) (ltb-true 0 (countIn s q) c))
         (λ c. sound-fresh (leb-true 2 q d) (omega (arith, ltb-false 0 (countIn s q) c))))
-        (λ d. stays-sound (enterState s t q) (bookEnter b t q) g i (enter-low s t q (leb-false 2 q d)) objects-same gone-same)
+        (λ d. stays-sound (enterState s t q) (historyEnter b t q) g i (enter-low s t q (leb-false 2 q d)) objects-same gone-same)
 
-  module _ (t : ℕ) (k : ExitOk s m t) (g : Good (exitState s t)) (i : Same (exitState s t) (bookExit b t)) where
+  module _ (t : ℕ) (k : ExitOk s m t) (g : Good (exitState s t)) (i : Same (exitState s t) (historyExit b t)) where
     abbrev top : ℕ
     top = current (stackAt s t)
 
@@ -97,18 +97,18 @@ module _ (s : State) (m : Memory) (b : Book) (o : Sound s m b) where
     area = current-area s (o .good) t (k .called .thread)
 
     -- what the book does where the top is on no row then, and where it is
-    book-drops : isScopeOnNone top rest ≡ true → (bookExit b t .objects ≡ putAt (b .objects) top []) × (bookExit b t .gone ≡ handles (b .objects top) ++ b .gone)
-    unfolding bookExit
-    book-drops e = (rw (row, e), rw (row, e))
+    history-drops : isScopeOnNone top rest ≡ true → (historyExit b t .objects ≡ putAt (b .objects) top []) × (historyExit b t .gone ≡ handles (b .objects top) ++ b .gone)
+    unfolding historyExit
+    history-drops e = (rw (row, e), rw (row, e))
 
-    book-keeps : isScopeOnNone top rest ≡ false → (bookExit b t .objects ≡ b .objects) × (bookExit b t .gone ≡ b .gone)
-    unfolding bookExit
-    book-keeps e = (rw (row, e), rw (row, e))
+    history-keeps : isScopeOnNone top rest ≡ false → (historyExit b t .objects ≡ b .objects) × (historyExit b t .gone ≡ b .gone)
+    unfolding historyExit
+    history-keeps e = (rw (row, e), rw (row, e))
 
-    sound-low : top < 2 → Sound (exitState s t) m (bookExit b t)
+    sound-low : top < 2 → Sound (exitState s t) m (historyExit b t)
     sound-low h =
-        let y = book-keeps (rw (lt-leb 2 top h)) in
-        stays-sound (exitState s t) (bookExit b t) g i (exit-low s t h) (y .0) (y .1)
+        let y = history-keeps (rw (lt-leb 2 top h)) in
+        stays-sound (exitState s t) (historyExit b t) g i (exit-low s t h) (y .0) (y .1)
 
     module _ (h : 2 ≤ top) where
       count : suc (total top rest) ≡ countIn s top
@@ -121,10 +121,10 @@ module _ (s : State) (m : Memory) (b : Book) (o : Sound s m b) where
       moves = moved-all to record { start = λ p. refl; later = omega arith; fresh = λ p z. absurd (omega (arith, count)) }
 
       -- other entries are left
-      sound-more : 1 < countIn s top → Sound (exitState s t) m (bookExit b t)
+      sound-more : 1 < countIn s top → Sound (exitState s t) m (historyExit b t)
       sound-more c =
-          let y = book-keeps (rw (le-leb 2 top h) (ne-eqb (total top rest) 0 (λ z. omega (arith, count)))) in
-          sound-still s m b o (exitState s t) (bookExit b t) g i (to .lengths) moves (y .0) (y .1)
+          let y = history-keeps (rw (le-leb 2 top h) (ne-eqb (total top rest) 0 (λ z. omega (arith, count)))) in
+          sound-still s m b o (exitState s t) (historyExit b t) g i (to .lengths) moves (y .0) (y .1)
           (still-all to (left-rows s (o .good .areas) t h area) (rw (lt-leb (countIn s top) 1 c)) refl (rw (lt-leb (countIn s top) 1 c)))
           (count-all to (λ z. absurd (more z)))
         where
@@ -132,10 +132,10 @@ module _ (s : State) (m : Memory) (b : Book) (o : Sound s m b) where
           more z = omega arith
 
       -- the last entry is left
-      sound-last : countIn s top ≤ 1 → Sound (exitState s t) m (bookExit b t)
+      sound-last : countIn s top ≤ 1 → Sound (exitState s t) m (historyExit b t)
       sound-last c =
-          let y = book-drops (rw (le-leb 2 top h) (eq-eqb (total top rest) 0 (omega (arith, count)))) in
-          sound-shuts s m b o (exitState s t) (bookExit b t) g i (to .lengths) moves top h area
+          let y = history-drops (rw (le-leb 2 top h) (eq-eqb (total top rest) 0 (omega (arith, count)))) in
+          sound-shuts s m b o (exitState s t) (historyExit b t) g i (to .lengths) moves top h area
           (ap (λ (x : Area). x .count) (to .here) ∙ none)
           (ap (λ (x : Area). x .used) (to .here) ∙ rw (le-leb (countIn s top) 1 c))
           (to .others) (y .0) (y .1)
@@ -143,7 +143,7 @@ module _ (s : State) (m : Memory) (b : Book) (o : Sound s m b) where
           none : pred (countIn s top) ≡ 0
           none = omega arith
 
-    pub sound-exit : Sound (exitState s t) m (bookExit b t)
+    pub sound-exit : Sound (exitState s t) m (historyExit b t)
     sound-exit = cases (leb 2 top)
         (λ d. cases (leb (countIn s top) 1)
         (λ c. sound-last (leb-true 2 top d) (leb-true (countIn s top) 1 c))

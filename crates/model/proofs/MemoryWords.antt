@@ -19,7 +19,7 @@ use Rattle.model.specs.State.{State, Memory, areaAt, rowAt, displayAt, d
 use Rattle.model.specs.Checks.{headerAt, live, isReference}
 use Rattle.model.specs.References.{mayRefer, wordAfter, storeAfter}
 use Rattle.model.specs.Data.{dataIndex}
-use Rattle.model.specs.Book.{Object, Book, occurrences, handles}
+use Rattle.model.specs.History.{Object, History, occurrences, handles}
 use Rattle.model.specs.Invariant.{parentIn, countIn}
 use Rattle.model.proofs.Walks.{occ-down}
 use Rattle.model.proofs.Tiles.{place}
@@ -34,7 +34,7 @@ use Rattle.model.proofs.Live.{live-given, given-tile, given-place, give
 abbrev wordPut : State → Memory → ℕ → ℕ → ℕ → Memory
 wordPut s m c p v = withStore m c (set (storeOf m c) (areaAt s c .start + p) v)
 
-module _ (s : State) (m : Memory) (b : Book) (o : Sound s m b) (c p v : ℕ) (hc : c < 64) (hp : p < usedIn s c) where
+module _ (s : State) (m : Memory) (b : History) (o : Sound s m b) (c p v : ℕ) (hc : c < 64) (hp : p < usedIn s c) where
   put-other-word : (a j : ℕ) → a < 64 → j < usedIn s a → (a ≡ c → j ≡ p → ⊥) → wordAt s (wordPut s m c p v) a j ≡ wordAt s m a j
   put-other-word a j h q ne = read-same m c (set (storeOf m c) (areaAt s c .start + p) v) a (areaAt s a .start + j) (λ e.
       getD-set-other (storeOf m c) (areaAt s c .start + p) (areaAt s a .start + j) v 0 (λ d.
@@ -43,14 +43,14 @@ module _ (s : State) (m : Memory) (b : Book) (o : Sound s m b) (c p v : ℕ) (hc
 
   put-word : wordAt s (wordPut s m c p v) c p ≡ v
   put-word = rw (replaced m c (set (storeOf m c) (areaAt s c .start + p) v) c refl)
-      (getD-set-same (storeOf m c) (areaAt s c .start + p) v 0 (word-in s m (o .good .placed) (o .lent) c hc p (used-in s (o .good .placed) c hc p hp)))
+      (getD-set-same (storeOf m c) (areaAt s c .start + p) v 0 (word-in s m (o .good .placed) (o .supplied) c hc p (used-in s (o .good .placed) c hc p hp)))
 
   sound-put : Mem (displayAt s) (countIn s) (usedIn s) (generationIn s) (wordAt s (wordPut s m c p v)) (bitIn s m) (b .objects) → Sound s (wordPut s m c p v) b
   unfolding withStore
   sound-put y = record {
     good = o .good;
     same = o .same;
-    lent = store-fits m c (set (storeOf m c) (areaAt s c .start + p) v) s (o .lent) (length-set (storeOf m c) (areaAt s c .start + p) v);
+    supplied = store-fits m c (set (storeOf m c) (areaAt s c .start + p) v) s (o .supplied) (length-set (storeOf m c) (areaAt s c .start + p) v);
     memory = y;
     dead = o .dead;
     above = o .above;
@@ -74,7 +74,7 @@ rule-reach s a c e = cases (ltb c 2)
 
 -- ---- the words of a live object
 
-module _ (s : State) (m : Memory) (b : Book) (o : Sound s m b) (p : ℕ) (lv : live s m p ≡ true) where
+module _ (s : State) (m : Memory) (b : History) (o : Sound s m b) (p : ℕ) (lv : live s m p ≡ true) where
   given : 0 < occurrences p (handles (b .objects (areaOf p)))
   given = live-given s m b o p lv
 

@@ -12,7 +12,7 @@ use lib.Seq.{getD-set-same, getD-set-other}
 use borrow.Author.Tests.{ltb-true, ltb-false, eqb-true, eqb-false}
 use Rattle.layout.specs.Choice.{cases}
 use Rattle.model.specs.State.{current}
-use Rattle.model.specs.Book.{occurrences, total}
+use Rattle.model.specs.History.{occurrences, total}
 use Rattle.model.specs.Invariant.{scopesOf, Link, Nested, Nesting}
 use Rattle.model.proofs.Lists.{total-set, occ-le-total, on-one, occ-same, occ-other, scopes-low, scopes-high, occ-scopes}
 

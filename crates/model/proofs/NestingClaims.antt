@@ -16,7 +16,7 @@ use Rattle.layout.specs.StackLaws.{length-down}
 use Rattle.model.specs.declared.Area.{Area}
 use Rattle.model.specs.State.{State, noArea, areaAt, rowAt, stackAt, isOpen, displayAt, displayHolds}
 use Rattle.model.specs.Checks.{isStarted}
-use Rattle.model.specs.Book.{Book, rowOf, occurrences}
+use Rattle.model.specs.History.{History, rowOf, occurrences}
 use Rattle.model.specs.Claims.{Open, Walk, Meets, InOrder, scan}
 use Rattle.model.specs.Invariant.{scopesOf, Nested, Nesting, countIn, Good}
 use Rattle.model.proofs.Walks.{walk-is, meets-occ, occ-meets, row-at, scan-is, down-has, occ-down}
@@ -24,21 +24,21 @@ use Rattle.model.proofs.Sound.{Same}
 use Rattle.model.proofs.Parts.{stack-is, nesting-same}
 use Rattle.model.proofs.Bounds.{StandsOn, stands-on, by-area}
 
-module _ (s : State) (b : Book) (g : Good s) (e : Same s b) where
+module _ (s : State) (b : History) (g : Good s) (e : Same s b) where
   -- the nesting of the core, with the book's parents and rows
-  pub book-nesting : Nesting (b .parents) (displayAt s) (countIn s) (b .rows)
-  book-nesting = nesting-same (g .nesting) (λ a. (sym (e .parents a), refl)) (λ a. refl) (sym (e .rows))
+  pub history-nesting : Nesting (b .parents) (displayAt s) (countIn s) (b .rows)
+  history-nesting = nesting-same (g .nesting) (λ a. (sym (e .parents a), refl)) (λ a. refl) (sym (e .rows))
 
   -- the scopes of every row are nested, also of a row that is not there
   row-nested : (t : ℕ) → Nested (b .parents) (displayAt s) (scopesOf (rowOf b t))
   row-nested t = cases (ltb t 16)
-      (λ d. book-nesting .nested t (ltb-true t 16 d))
-      (λ d. rw (List·getD-eq-default (b .rows) [] {n = t} (omega (arith, ltb-false t 16 d, book-nesting .size))) (unfold scopesOf in tt))
+      (λ d. history-nesting .nested t (ltb-true t 16 d))
+      (λ d. rw (List·getD-eq-default (b .rows) [] {n = t} (omega (arith, ltb-false t 16 d, history-nesting .size))) (unfold scopesOf in tt))
 
   -- an open scope, with the scopes below it on some row
   pub open-at : (a : ℕ) → Open b a → (k : List ℕ) × Nested (b .parents) (displayAt s) (a ∷ k)
   open-at a o =
-      let z : StandsOn (b .parents) (displayAt s) (b .rows) a = stands-on book-nesting a (o .0) (o .1) in
+      let z : StandsOn (b .parents) (displayAt s) (b .rows) a = stands-on history-nesting a (o .0) (o .1) in
       (z .below, z .nested)
 
   -- there are 64 areas
@@ -58,8 +58,8 @@ module _ (s : State) (b : Book) (g : Good s) (e : Same s b) where
 
   pub opens : (a : ℕ) → 2 ≤ a → (isOpen s a ≡ true) ↔ Open b a
   opens a h = (
-    λ o. (h, omega (arith, ltb-true 0 (areaAt s a .count) o, book-nesting .counts a h (below (ltb-true 0 (areaAt s a .count) o)))),
-    λ o. lt-ltb 0 (areaAt s a .count) (omega (arith, o .1, book-nesting .counts a h (open-at a o .1 .0 .area))),
+    λ o. (h, omega (arith, ltb-true 0 (areaAt s a .count) o, history-nesting .counts a h (below (ltb-true 0 (areaAt s a .count) o)))),
+    λ o. lt-ltb 0 (areaAt s a .count) (omega (arith, o .1, history-nesting .counts a h (open-at a o .1 .0 .area))),
   )
     where
       below : 0 < areaAt s a .count → a < 64

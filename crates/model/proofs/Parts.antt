@@ -14,7 +14,7 @@ use Rattle.layout.specs.Stack.{down}
 use Rattle.model.specs.declared.Area.{Area}
 use Rattle.model.specs.declared.Lengths.{Lengths}
 use Rattle.model.specs.State.{Thread, State, noArea, noThread, areaAt, rowAt, threadAt, withArea, withRow, withThread, withTaken, stackOf, stackAt, innermost, current, displayAt}
-use Rattle.model.specs.Book.{total}
+use Rattle.model.specs.History.{total}
 use Rattle.model.specs.Invariant.{scopesOf, Nesting, ThreadGood, Each, StandingGood, ScopeGood, Placed, parentIn, countIn, stacksIn, Good}
 use Rattle.model.proofs.Lists.{innermost-is, each-set}
 use Rattle.model.proofs.Nesting.{nested-frame}

@@ -93,20 +93,20 @@ module _ (s : State) (g : Placed s) where
 
 module _ (s : State) (m : Memory) (f : fits s m ≡ true) where
   -- what is lent has the lengths of set-up
-  pub record LentLengths : Type 0 where
+  pub record SuppliedLengths : Type 0 where
     pub permanent : length (m .permanent) ≡ s .lengths .permanent
     pub scratch : length (m .scratch) ≡ s .lengths .scratch
     pub map : length (m .map) ≡ s .lengths .map
 
-  pub lent-lengths : LentLengths
+  pub supplied-lengths : SuppliedLengths
   unfolding fits
-  lent-lengths =
+  supplied-lengths =
       let p = and-true (eqb (length (m .permanent)) (s .lengths .permanent)) _ f in
       let q = and-true (eqb (length (m .scratch)) (s .lengths .scratch)) _ (p .1) in
       record { permanent = eqb-true _ _ (p .0); scratch = eqb-true _ _ (q .0); map = eqb-true _ _ (q .1) }
 
   store-length : (a : ℕ) → length (storeOf m a) ≡ lengthFor s a
-  store-length a = cases (isScope a) (λ e. rw e (lent-lengths .scratch)) (λ e. rw e (lent-lengths .permanent))
+  store-length a = cases (isScope a) (λ e. rw e (supplied-lengths .scratch)) (λ e. rw e (supplied-lengths .permanent))
 
   -- the same lengths fit
   pub fits-also : (n : Memory) → length (n .permanent) ≡ length (m .permanent) → length (n .scratch) ≡ length (m .scratch)
@@ -121,7 +121,7 @@ module _ (s : State) (m : Memory) (g : Placed s) (f : fits s m ≡ true) (a : �
 
   -- and its bit in a word of the map
   pub bit-in : bitIndex s a j / 64 < length (m .map)
-  bit-in = omega (arith, bit-inside s g a h j p, g .map, lent-lengths s m f .map)
+  bit-in = omega (arith, bit-inside s g a h j p, g .map, supplied-lengths s m f .map)
 
 -- ---- a store is replaced
 

@@ -30,7 +30,7 @@ memory = record { permanent = replicate 32 0; scratch = replicate 4096 0; map = 
 lines : World → List Call → List Line
 lines w [] = []
 lines w (c ∷ cs) =
-    let v : World = step w (record { call = c; lent = kept }) in
+    let v : World = step w (record { call = c; supplied = kept }) in
     head (v .trace) (lines v cs)
   where
     head : List Line → List Line → List Line

@@ -9,12 +9,12 @@ use Rattle.layout.specs.Handle.{areaOf, generationOf}
 use Rattle.bitmap.specs.Bitmap.{bitAt}
 use Rattle.model.specs.State.{State, Memory, areaAt, displayAt, wordAt, bitIndex}
 use Rattle.model.specs.Checks.{fits, isStarted}
-use Rattle.model.specs.Book.{Book, occurrences}
+use Rattle.model.specs.History.{History, occurrences}
 use Rattle.model.specs.Invariant.{parentIn, countIn, stacksIn, Good}
 use Rattle.model.proofs.Memory.{Mem}
 
 -- the state has the book's started threads, stacks and parents
-pub record Same (s : State) (b : Book) : Type 0 where
+pub record Same (s : State) (b : History) : Type 0 where
   pub started : (t : ℕ) → isStarted s t ≡ b .started t
   pub rows : stacksIn s ≡ b .rows
   pub parents : (a : ℕ) → parentIn s a ≡ b .parents a
@@ -35,10 +35,10 @@ pub record Dead (count generation : ℕ → ℕ) (h : ℕ) : Type 0 where
   pub old : generationOf h ≤ generation (areaOf h)
   pub past : 0 < count (areaOf h) → generationOf h < generation (areaOf h)
 
-pub record Sound (s : State) (m : Memory) (b : Book) : Type 0 where
+pub record Sound (s : State) (m : Memory) (b : History) : Type 0 where
   pub good : Good s
   pub same : Same s b
-  pub lent : fits s m ≡ true
+  pub supplied : fits s m ≡ true
   pub memory : Mem (displayAt s) (countIn s) (usedIn s) (generationIn s) (wordAt s m) (bitIn s m) (b .objects)
   pub dead : (h : ℕ) → 0 < occurrences h (b .gone) → Dead (countIn s) (generationIn s) h
   pub above : (a : ℕ) → 64 ≤ a → b .objects a ≡ []

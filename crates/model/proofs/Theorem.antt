@@ -14,8 +14,8 @@ use Rattle.model.specs.SetUp.{lengthsOf, setUpStatus}
 use Rattle.model.specs.Checks.{fits, live}
 use Rattle.model.specs.References.{slotStatus, loadStatus}
 use Rattle.model.specs.Calls.{load, outcomeOf}
-use Rattle.model.specs.Run.{Lent, kept, other, Element, Line, World, lentTo, step, run, begin}
-use Rattle.model.specs.Book.{Object, Book, blank, occurrences, handles, bookOf}
+use Rattle.model.specs.Run.{Supplied, kept, other, Element, Line, World, suppliedTo, step, run, begin}
+use Rattle.model.specs.History.{Object, History, blank, occurrences, handles, historyOf}
 use Rattle.model.specs.Claims.{In, Among, Since, made, stays, Names, IsLoad, On, Claims}
 use Rattle.model.proofs.Sound.{Sound}
 use Rattle.model.proofs.Keeps.{good-first}
@@ -31,58 +31,58 @@ use Rattle.model.proofs.Traces.{none-in, on-or, none-on, born, gone-run
 
 -- a world with the book of its trace
 abbrev Holds : World → Type 0
-Holds w = Sound (w .state) (w .memory) (bookOf (w .trace))
+Holds w = Sound (w .state) (w .memory) (historyOf (w .trace))
 
 module _ (w : World) (e : Element) (o : Holds w) where
-  abbrev lent : Memory
-  lent = lentTo (w .state) (w .memory) (e .lent)
+  abbrev supplied : Memory
+  supplied = suppliedTo (w .state) (w .memory) (e .supplied)
 
   -- what is lent is the kept memory, or has other lengths
-  lent-is : (l : Lent) → (lentTo (w .state) (w .memory) l ≡ w .memory) ⊎ (fits (w .state) (lentTo (w .state) (w .memory) l) ≡ false)
-  lent-is kept = inl refl
-  lent-is (other n) = cases (fits (w .state) n)
+  supplied-is : (l : Supplied) → (suppliedTo (w .state) (w .memory) l ≡ w .memory) ⊎ (fits (w .state) (suppliedTo (w .state) (w .memory) l) ≡ false)
+  supplied-is kept = inl refl
+  supplied-is (other n) = cases (fits (w .state) n)
       (λ t. inl (rw t))
       (λ f. inr (rw f f))
 
-  step-fit : lent ≡ w .memory → Holds (step w e)
-  unfolding step bookOf
-  step-fit q = rw (q, o .lent) (sound-line (w .state) (w .memory) (bookOf (w .trace)) (e .call) o)
+  step-fit : supplied ≡ w .memory → Holds (step w e)
+  unfolding step historyOf
+  step-fit q = rw (q, o .supplied) (sound-line (w .state) (w .memory) (historyOf (w .trace)) (e .call) o)
 
-  step-unfit : fits (w .state) lent ≡ false → Holds (step w e)
-  unfolding step bookOf
+  step-unfit : fits (w .state) supplied ≡ false → Holds (step w e)
+  unfolding step historyOf
   step-unfit f =
-      let k = unfit (w .state) lent f (bookOf (w .trace)) (e .call) in
+      let k = unfit (w .state) supplied f (historyOf (w .trace)) (e .call) in
       rw (f, k .0, k .2) o
 
   pub step-holds : Holds (step w e)
-  step-holds = ⊎-elim step-fit step-unfit (lent-is (e .lent))
+  step-holds = ⊎-elim step-fit step-unfit (supplied-is (e .supplied))
 
 -- ---- the invariant of a world, and its trace
 
 pub record Told (w : World) : Type 0 where
   pub holds : Holds w
-  pub since : (a : ℕ) (x : Object) → In x (bookOf (w .trace) .objects a) → Since (x .handle) a (w .trace)
+  pub since : (a : ℕ) (x : Object) → In x (historyOf (w .trace) .objects a) → Since (x .handle) a (w .trace)
   pub loads : (l : Line) → On l (w .trace) → IsLoad l → l .reply .status ≢ 15
 
 -- a load is not refused by 15, whatever it is lent
 load-not-15 : (w : World) (e : Element) → Holds w → (t p q : ℕ) → e .call ≡ load t p q
-    → outcomeOf (w .state) (lentTo (w .state) (w .memory) (e .lent)) (load t p q) .reply .status ≢ 15
+    → outcomeOf (w .state) (suppliedTo (w .state) (w .memory) (e .supplied)) (load t p q) .reply .status ≢ 15
 load-not-15 w e o t p q c = ⊎-elim
-    (λ k. rw k (fit (w .memory) (no-15 (w .state) (w .memory) (bookOf (w .trace)) o t p q)))
-    (λ u. fit (lentTo (w .state) (w .memory) (e .lent)) (λ z. omega (arith, by-1 u)))
-    (lent-is w e o (e .lent))
+    (λ k. rw k (fit (w .memory) (no-15 (w .state) (w .memory) (historyOf (w .trace)) o t p q)))
+    (λ u. fit (suppliedTo (w .state) (w .memory) (e .supplied)) (λ z. omega (arith, by-1 u)))
+    (supplied-is w e o (e .supplied))
   where
     fit : (m : Memory) → loadStatus (w .state) m t p q ≢ 15 → outcomeOf (w .state) m (load t p q) .reply .status ≢ 15
     fit m n z = cases (eqb (loadStatus (w .state) m t p q) 0)
         (λ k. omega (arith, accepted (w .state) m (load t p q) k .2))
         (λ k. n (sym (refused (w .state) m (load t p q) k .2) ∙ z))
 
-    by-1 : fits (w .state) (lentTo (w .state) (w .memory) (e .lent)) ≡ false → loadStatus (w .state) (lentTo (w .state) (w .memory) (e .lent)) t p q ≡ 1
-    by-1 u = unfold loadStatus slotStatus in unfit-use (w .state) (lentTo (w .state) (w .memory) (e .lent)) u t p _
+    by-1 : fits (w .state) (suppliedTo (w .state) (w .memory) (e .supplied)) ≡ false → loadStatus (w .state) (suppliedTo (w .state) (w .memory) (e .supplied)) t p q ≡ 1
+    by-1 u = unfold loadStatus slotStatus in unfit-use (w .state) (suppliedTo (w .state) (w .memory) (e .supplied)) u t p _
 
 module _ (w : World) (e : Element) (o : Told w) where
   abbrev line : Line
-  line = lineOf (w .state) (lentTo (w .state) (w .memory) (e .lent)) (e .call)
+  line = lineOf (w .state) (suppliedTo (w .state) (w .memory) (e .supplied)) (e .call)
 
   trace-is : step w e .trace ≡ line ∷ w .trace
   unfolding step
@@ -91,11 +91,11 @@ module _ (w : World) (e : Element) (o : Told w) where
   now : Holds (step w e)
   now = step-holds w e (o .holds)
 
-  step-since : (a : ℕ) (x : Object) → In x (bookOf (step w e .trace) .objects a) → Since (x .handle) a (step w e .trace)
+  step-since : (a : ℕ) (x : Object) → In x (historyOf (step w e .trace) .objects a) → Since (x .handle) a (step w e .trace)
   step-since a x i = rw trace-is (⊎-elim
-      (λ k. stays (o .since a x k) (λ h. rw trace-is at (open-area (step w e .state) (step w e .memory) (bookOf (step w e .trace)) now a x i h)))
+      (λ k. stays (o .since a x k) (λ h. rw trace-is at (open-area (step w e .state) (step w e .memory) (historyOf (step w e .trace)) now a x i h)))
       (λ k. made k)
-      (born (bookOf (w .trace)) line a x (unfold bookOf in (rw trace-is at i))))
+      (born (historyOf (w .trace)) line a x (unfold historyOf in (rw trace-is at i))))
 
   step-loads : (l : Line) → On l (step w e .trace) → IsLoad l → l .reply .status ≢ 15
   step-loads l i k = ⊎-elim
@@ -116,7 +116,7 @@ run-told w [] o = o
 run-told w (e ∷ es) o = run-told (step w e) es (step-told w e o)
 
 begin-told : (h i : ℕ) (m : Memory) → setUpStatus h i (lengthsOf m) ≡ 0 → Told (begin h i m)
-unfolding begin bookOf blank
+unfolding begin historyOf blank
 begin-told h i m e = record {
   holds = sound-first h i m e (good-first h i (lengthsOf m) e) (same-first h i (lengthsOf m));
   since = λ a x k. absurd (none-in k);
@@ -126,30 +126,30 @@ begin-told h i m e = record {
 -- ---- the claims
 
 module _ (w : World) (o : Told w) where
-  abbrev b : Book
-  b = bookOf (w .trace)
+  abbrev b : History
+  b = historyOf (w .trace)
 
-  abbrev sound : Sound (w .state) (w .memory) (bookOf (w .trace))
+  abbrev sound : Sound (w .state) (w .memory) (historyOf (w .trace))
   sound = o .holds
 
-  given-names : (x : ℕ) → 0 < occurrences x (handles (bookOf (w .trace) .objects (areaOf x))) → Names (bookOf (w .trace)) (w .trace) x
+  given-names : (x : ℕ) → 0 < occurrences x (handles (historyOf (w .trace) .objects (areaOf x))) → Names (historyOf (w .trace)) (w .trace) x
   given-names x p =
-      let k : (y : Object) × In y (bookOf (w .trace) .objects (areaOf x)) × (y .handle ≡ x) = given-in (w .state) (w .memory) (bookOf (w .trace)) sound x p in
+      let k : (y : Object) × In y (historyOf (w .trace) .objects (areaOf x)) × (y .handle ≡ x) = given-in (w .state) (w .memory) (historyOf (w .trace)) sound x p in
       record { area = areaOf x; object = k .0; live = k .1; handle = k .2; since = rw (k .2) at (o .since (areaOf x) (k .0) (k .1)) }
 
-  names-live : (x : ℕ) → Names (bookOf (w .trace)) (w .trace) x → live (w .state) (w .memory) x ≡ true
+  names-live : (x : ℕ) → Names (historyOf (w .trace)) (w .trace) x → live (w .state) (w .memory) x ≡ true
   names-live x n =
-      let h = area-below (w .state) (w .memory) (bookOf (w .trace)) sound (n .area) (n .object) (n .live) in
-      rw (n .handle) at (given-live (w .state) (w .memory) (bookOf (w .trace)) sound (n .object .handle)
-      (in-given (w .state) (w .memory) (bookOf (w .trace)) sound (n .area) (n .object) h (n .live)))
+      let h = area-below (w .state) (w .memory) (historyOf (w .trace)) sound (n .area) (n .object) (n .live) in
+      rw (n .handle) at (given-live (w .state) (w .memory) (historyOf (w .trace)) sound (n .object .handle)
+      (in-given (w .state) (w .memory) (historyOf (w .trace)) sound (n .area) (n .object) h (n .live)))
 
-  gone-after : (rest : List Element) (x : ℕ) → Among x (bookOf (w .trace) .gone) → live (run w rest .state) (run w rest .memory) x ≡ false
+  gone-after : (rest : List Element) (x : ℕ) → Among x (historyOf (w .trace) .gone) → live (run w rest .state) (run w rest .memory) x ≡ false
   gone-after rest x i =
       let z : Holds (run w rest) = run-told w rest o .holds in
-      dead-not (run w rest .state) (run w rest .memory) (bookOf (run w rest .trace)) z x
+      dead-not (run w rest .state) (run w rest .memory) (historyOf (run w rest .trace)) z x
       (z .dead x (among-some (gone-run w rest x i)))
 
-  pub claimed : Claims w (bookOf (w .trace))
+  pub claimed : Claims w (historyOf (w .trace))
   claimed = record {
     started = started (w .state) b (sound .good) (sound .same);
     stacks = stacks (w .state) b (sound .good) (sound .same);
@@ -172,5 +172,5 @@ module _ (w : World) (o : Told w) where
 
 -- the one theorem: from an accepted set-up, with any contents of the lent words, after every list of calls
 pub every-list : (h i : ℕ) (m : Memory) → setUpStatus h i (lengthsOf m) ≡ 0 → (es : List Element)
-    → Claims (run (begin h i m) es) (bookOf (run (begin h i m) es .trace))
+    → Claims (run (begin h i m) es) (historyOf (run (begin h i m) es .trace))
 every-list h i m e es = claimed (run (begin h i m) es) (run-told (begin h i m) es (begin-told h i m e))

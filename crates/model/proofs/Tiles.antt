@@ -12,7 +12,7 @@ use borrow.Author.Tests.{ltb-true, ltb-false, eqb-true, eqb-false}
 use Rattle.layout.specs.Choice.{cases}
 use Rattle.layout.specs.Handle.{offsetOf}
 use Rattle.layout.specs.Header.{headerOf}
-use Rattle.model.specs.Book.{Object, occurrences, handles}
+use Rattle.model.specs.History.{Object, occurrences, handles}
 use Rattle.model.specs.Claims.{In, first, later}
 use Rattle.model.proofs.Lists.{occ-same, occ-other}
 

@@ -13,7 +13,7 @@ use Rattle.layout.specs.Choice.{cases}
 use Rattle.model.specs.State.{State, Memory, current, isOpen}
 use Rattle.model.specs.Calls.{Call, start, end, make, enter, exit, allocate, store, load, write, read, view, viewed}
 use Rattle.model.specs.Run.{Element, Line, World, step, run}
-use Rattle.model.specs.Book.{Object, Book, rowOf, putAt, below, occurrences, handles, isScopeOnNone, bookStart, bookEnter, bookExit, bookAllocate, bookStep, bookLine, bookOf}
+use Rattle.model.specs.History.{Object, History, rowOf, putAt, below, occurrences, handles, isScopeOnNone, historyStart, historyEnter, historyExit, historyAllocate, historyStep, historyLine, historyOf}
 use Rattle.model.specs.Claims.{Open, In, Among, Allocates, made, stays, On}
 use Rattle.model.specs.Invariant.{countIn}
 use Rattle.model.proofs.Lists.{occ-same, occ-other}
@@ -52,20 +52,20 @@ on-some (On.later i) = omega (arith, on-some i)
 pub none-on : {x : Line} → On x [] → ⊥
 none-on i = omega (arith, on-some i)
 
-module _ (b : Book) (l : Line) (ok : l .reply .status ≡ 0) (a : ℕ) (x : Object) where
+module _ (b : History) (l : Line) (ok : l .reply .status ≡ 0) (a : ℕ) (x : Object) where
   abbrev Born : Type 0
   Born = In x (b .objects a) ⊎ Allocates b l (x .handle) a
 
-  born-exit : (t : ℕ) → In x (bookExit b t .objects a) → Born
-  unfolding bookExit
+  born-exit : (t : ℕ) → In x (historyExit b t .objects a) → Born
+  unfolding historyExit
   born-exit t i =
       cases (isScopeOnNone (current (rowOf b t)) (set (b .rows) t (below (rowOf b t))))
       (λ e. ⊎-elim (λ k. absurd (none-in (k .0))) (λ k. inl k) (put-in (b .objects) (current (rowOf b t)) [] a x (rw e at i)))
       (λ e. inl (rw e at i))
 
   born-allocate : (t q r : ℕ) → l .call ≡ allocate t q r
-      → In x (bookAllocate b t (record { handle = l .reply .value; slots = q; words = r }) .objects a) → Born
-  unfolding bookAllocate
+      → In x (historyAllocate b t (record { handle = l .reply .value; slots = q; words = r }) .objects a) → Born
+  unfolding historyAllocate
   born-allocate t q r e i =
       ⊎-elim
       (λ k. ⊎-elim
@@ -76,8 +76,8 @@ module _ (b : Book) (l : Line) (ok : l .reply .status ≡ 0) (a : ℕ) (x : Obje
       (put-in (b .objects) (current (rowOf b t)) (record { handle = l .reply .value; slots = q; words = r } ∷ b .objects (current (rowOf b t))) a x i)
 
   -- an object of the book has been there, or the line made it
-  born-step : (c : Call) → l .call ≡ c → In x (bookStep b c (l .reply .value) .objects a) → Born
-  unfolding bookStart bookEnter
+  born-step : (c : Call) → l .call ≡ c → In x (historyStep b c (l .reply .value) .objects a) → Born
+  unfolding historyStart historyEnter
   born-step (start t p) e i = inl i
   born-step (end t) e i = inl i
   born-step (make t q r) e i = inl i
@@ -91,8 +91,8 @@ module _ (b : Book) (l : Line) (ok : l .reply .status ≡ 0) (a : ℕ) (x : Obje
   born-step (view t p) e i = inl i
   born-step (viewed t p) e i = inl i
 
-pub born : (b : Book) (l : Line) (a : ℕ) (x : Object) → In x (bookLine b l .objects a) → In x (b .objects a) ⊎ Allocates b l (x .handle) a
-unfolding bookLine
+pub born : (b : History) (l : Line) (a : ℕ) (x : Object) → In x (historyLine b l .objects a) → In x (b .objects a) ⊎ Allocates b l (x .handle) a
+unfolding historyLine
 born b l a x i =
     cases (eqb (l .reply .status) 0)
     (λ e. born-step b l (eqb-true (l .reply .status) 0 e) a x (l .call) refl (rw e at i))
@@ -103,15 +103,15 @@ among-after : (x : ℕ) (k l : List ℕ) → Among x l → Among x (k ++ l)
 among-after x [] l i = i
 among-after x (y ∷ k) l i = Among.later (among-after x k l i)
 
-gone-exit : (b : Book) (t x : ℕ) → Among x (b .gone) → Among x (bookExit b t .gone)
-unfolding bookExit
+gone-exit : (b : History) (t x : ℕ) → Among x (b .gone) → Among x (historyExit b t .gone)
+unfolding historyExit
 gone-exit b t x i =
     cases (isScopeOnNone (current (rowOf b t)) (set (b .rows) t (below (rowOf b t))))
     (λ e. rw e (among-after x (handles (b .objects (current (rowOf b t)))) (b .gone) i))
     (λ e. rw e i)
 
-gone-step : (b : Book) (c : Call) (v x : ℕ) → Among x (b .gone) → Among x (bookStep b c v .gone)
-unfolding bookStart bookEnter bookAllocate
+gone-step : (b : History) (c : Call) (v x : ℕ) → Among x (b .gone) → Among x (historyStep b c v .gone)
+unfolding historyStart historyEnter historyAllocate
 gone-step b (start t p) v x i = i
 gone-step b (end t) v x i = i
 gone-step b (make t q r) v x i = i
@@ -125,14 +125,14 @@ gone-step b (read t p q) v x i = i
 gone-step b (view t p) v x i = i
 gone-step b (viewed t p) v x i = i
 
-gone-line : (b : Book) (l : Line) (x : ℕ) → Among x (b .gone) → Among x (bookLine b l .gone)
-unfolding bookLine
+gone-line : (b : History) (l : Line) (x : ℕ) → Among x (b .gone) → Among x (historyLine b l .gone)
+unfolding historyLine
 gone-line b l x i = cases (eqb (l .reply .status) 0) (λ e. rw e (gone-step b (l .call) (l .reply .value) x i)) (λ e. rw e i)
 
-pub gone-run : (w : World) (es : List Element) (x : ℕ) → Among x (bookOf (w .trace) .gone) → Among x (bookOf (run w es .trace) .gone)
+pub gone-run : (w : World) (es : List Element) (x : ℕ) → Among x (historyOf (w .trace) .gone) → Among x (historyOf (run w es .trace) .gone)
 unfolding run
 gone-run w [] x i = i
-gone-run w (e ∷ es) x i = gone-run (step w e) es x (unfold step bookOf in gone-line (bookOf (w .trace)) _ x i)
+gone-run w (e ∷ es) x i = gone-run (step w e) es x (unfold step historyOf in gone-line (historyOf (w .trace)) _ x i)
 
 pub among-some : {x : ℕ} {l : List ℕ} → Among x l → 0 < occurrences x l
 among-some {x} (Among.first {l = l}) = omega (arith, occ-same x l)
@@ -142,7 +142,7 @@ among-some {x} (Among.later {y = y} {l = l} i) =
     (λ e. rw (occ-other x y l (eqb-false y x e)) (among-some i))
 
 -- an area with an object is open, if it is a scope
-module _ (s : State) (m : Memory) (b : Book) (o : Sound s m b) where
+module _ (s : State) (m : Memory) (b : History) (o : Sound s m b) where
   pub area-below : (a : ℕ) (x : Object) → In x (b .objects a) → a < 64
   area-below a x i = cases (ltb a 64)
       (λ e. ltb-true a 64 e)

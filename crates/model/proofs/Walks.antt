@@ -13,7 +13,7 @@ use Rattle.layout.specs.Choice.{cases}
 use Rattle.layout.specs.Stack.{down}
 use Rattle.layout.specs.StackLaws.{length-down}
 use Rattle.model.specs.State.{current}
-use Rattle.model.specs.Book.{occurrences}
+use Rattle.model.specs.History.{occurrences}
 use Rattle.model.specs.Claims.{Walk, ends, goes, Meets, here, up, InOrder, none, keep, skip, onRow, scan}
 use Rattle.model.specs.Invariant.{scopesOf, Nested}
 use Rattle.model.proofs.Lists.{occ-same, occ-other, scopes-low, scopes-high, occ-scopes}

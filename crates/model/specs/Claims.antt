@@ -12,12 +12,12 @@ use Rattle.model.specs.State.{areaAt, stackAt, current, isOpen, displayA
 use Rattle.model.specs.Checks.{isStarted, live}
 use Rattle.model.specs.Calls.{allocate, load}
 use Rattle.model.specs.Run.{Element, Line, World, run}
-use Rattle.model.specs.Book.{Object, Book, rowOf, occurrences, total, bookOf}
+use Rattle.model.specs.History.{Object, History, rowOf, occurrences, total, historyOf}
 
 -- ---- the words of the claims
 
 -- "Open means on some row."
-abbrev pub Open : Book → ℕ → Type 0
+abbrev pub Open : History → ℕ → Type 0
 Open b a = (2 ≤ a) × (0 < total a (b .rows))
 
 -- "A walk goes from a scope to its parent and so on; it meets the scope itself and then its ancestors, the outermost last."
@@ -56,7 +56,7 @@ pub data Among (x : ℕ) : List ℕ → Type 0 where
   later : {y : ℕ} {l : List ℕ} → Among x l → Among x (y ∷ l)
 
 -- a line of an accepted allocation that gave x, by a thread whose row has area a on top
-pub record Allocates (b : Book) (l : Line) (x a : ℕ) : Type 0 where
+pub record Allocates (b : History) (l : Line) (x a : ℕ) : Type 0 where
   pub thread : ℕ
   pub slots : ℕ
   pub words : ℕ
@@ -68,12 +68,12 @@ pub record Allocates (b : Book) (l : Line) (x a : ℕ) : Type 0 where
 -- by the list of calls alone: an allocation gave x in area a, and if a is a scope, it has not been empty of threads since. The newest line
 -- is the first.
 pub data Since (x a : ℕ) : List Line → Type 0 where
-  made : {l : Line} {ls : List Line} → Allocates (bookOf ls) l x a → Since x a (l ∷ ls)
-  stays : {l : Line} {ls : List Line} → Since x a ls → (2 ≤ a → Open (bookOf (l ∷ ls)) a) → Since x a (l ∷ ls)
+  made : {l : Line} {ls : List Line} → Allocates (historyOf ls) l x a → Since x a (l ∷ ls)
+  stays : {l : Line} {ls : List Line} → Since x a ls → (2 ≤ a → Open (historyOf (l ∷ ls)) a) → Since x a (l ∷ ls)
 
 -- "names the object with that handle": x is the handle of a live object of the book, one "in the heap, in immortal memory, or in a scope
 -- that, by the list of calls alone, has never been empty of threads since that object was made"
-pub record Names (b : Book) (ls : List Line) (x : ℕ) : Type 0 where
+pub record Names (b : History) (ls : List Line) (x : ℕ) : Type 0 where
   pub area : ℕ
   pub object : Object
   pub live : In object (b .objects area)
@@ -95,7 +95,7 @@ pub data On (l : Line) : List Line → Type 0 where
 -- ---- the claims
 
 -- of a world that a list of calls has led to, with its book
-pub record Claims (w : World) (b : Book) : Type 0 where
+pub record Claims (w : World) (b : History) : Type 0 where
   -- 1. "The core has the book's started threads, stacks, open scopes and parents."
   pub started : (t : ℕ) → isStarted (w .state) t ≡ b .started t
   pub stacks : (t : ℕ) → stackAt (w .state) t ≡ rowOf b t

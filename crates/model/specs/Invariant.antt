@@ -10,7 +10,7 @@ use Rattle.layout.specs.Stack.{down}
 use Rattle.model.specs.declared.Area.{Area}
 use Rattle.model.specs.State.{Thread, State, noThread, areaAt, stackOf, current, innermost, isScope, displayAt}
 use Rattle.model.specs.Scopes.{lastGeneration}
-use Rattle.model.specs.Book.{total}
+use Rattle.model.specs.History.{total}
 
 -- ---- nesting
 

@@ -9,6 +9,6 @@ pub mod References
 pub mod Data
 pub mod Calls
 pub mod Run
-pub mod Book
+pub mod History
 pub mod Claims
 pub mod Invariant

@@ -10,14 +10,14 @@ use Rattle.model.specs.Checks.{fits}
 use Rattle.model.specs.Calls.{Call, Reply, Outcome, outcomeOf}
 
 -- what a call is lent: the memory as it was left, or another memory
-pub data Lent : Type 0 where
-  kept : Lent
-  other : Memory → Lent
+pub data Supplied : Type 0 where
+  kept : Supplied
+  other : Memory → Supplied
 
 -- an element of the list
 pub record Element : Type 0 where
   pub call : Call
-  pub lent : Lent
+  pub supplied : Supplied
 
 -- a call with its answer
 pub record Line : Type 0 where
@@ -31,14 +31,14 @@ pub record World : Type 0 where
   pub trace : List Line
 
 -- another memory has other lengths than those of set-up; where it has not, the call is lent the kept memory
-abbrev pub lentTo : State → Memory → Lent → Memory
-lentTo s m kept = m
-lentTo s m (other n) = pick (fits s n) m n
+abbrev pub suppliedTo : State → Memory → Supplied → Memory
+suppliedTo s m kept = m
+suppliedTo s m (other n) = pick (fits s n) m n
 
 -- one call: what is lent with other lengths is not kept
 unfoldable pub step : World → Element → World
 step w e =
-    let m : Memory = lentTo (w .state) (w .memory) (e .lent) in
+    let m : Memory = suppliedTo (w .state) (w .memory) (e .supplied) in
     let o : Outcome = outcomeOf (w .state) m (e .call) in
     record {
       state = o .state;

@@ -23,14 +23,14 @@ use Rattle.objects.specs.Found.{objectOf, foundOf, refusalOf}
 -- ---- the words of an area
 
 -- the lent buffers have the lengths of set-up
-pub record Lent (s : State) (m : Memory) : Type 0 where
+pub record Supplied (s : State) (m : Memory) : Type 0 where
   pub permanent : length (m .permanent) ≡ s .lengths .permanent
   pub scratch : length (m .scratch) ≡ s .lengths .scratch
   pub map : length (m .map) ≡ s .lengths .map
 
-pub lent : (s : State) (m : Memory) → fits s m ≡ true → Lent s m
+pub supplied : (s : State) (m : Memory) → fits s m ≡ true → Supplied s m
 unfolding fits
-lent s m f =
+supplied s m f =
     let a = and-true (eqb (length (m .permanent)) (s .lengths .permanent)) _ f in
     let b = and-true (eqb (length (m .scratch)) (s .lengths .scratch)) _ (a .1) in
     record {
@@ -71,8 +71,8 @@ within s m g f a k =
       bits = rw e (omega (arith, b, p .map, l .map));
     })
   where
-    l : Lent s m
-    l = lent s m f
+    l : Supplied s m
+    l = supplied s m f
 
     p : Rattle.model.specs.Invariant.Placed s
     p = g .placed

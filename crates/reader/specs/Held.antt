@@ -39,7 +39,7 @@ pub record Called (k n : Core) (f : Fields) (a : Answer) : Type 0 where
   pub ready : Ready (n .words) (n .bytes)
   pub status-is : (w : World) → Stands k w → a .status ≡ outcomeOf (w .state) (w .memory) (callOf f) .reply .status
   pub value-is : (w : World) → Stands k w → a .value ≡ outcomeOf (w .state) (w .memory) (callOf f) .reply .value
-  pub steps : (w : World) → Stands k w → Stands n (step w (record { call = callOf f; lent = kept }))
+  pub steps : (w : World) → Stands k w → Stands n (step w (record { call = callOf f; supplied = kept }))
 
 -- a line is answered
 pub record Answered (k n : Core) (line : List ℕ) (len : ℕ) (a : Answer) : Type 0 where

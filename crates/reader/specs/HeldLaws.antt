@@ -46,7 +46,7 @@ frame-answer : (w : World) (l : List ℕ) → isFrame l ≡ true
 unfolding lineAnswer
 frame-answer w l e = rw e refl
 
-frame-after : (w : World) (l : List ℕ) → isFrame l ≡ true → step w (record { call = callOf (fieldsOf l); lent = kept }) ≡ afterLine w l
+frame-after : (w : World) (l : List ℕ) → isFrame l ≡ true → step w (record { call = callOf (fieldsOf l); supplied = kept }) ≡ afterLine w l
 unfolding afterLine
 frame-after w l e = rw e refl
 

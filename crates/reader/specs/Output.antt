@@ -33,7 +33,7 @@ lineAnswer w l =
     (answerOf 18 0)
 
 unfoldable pub afterLine : World → List ℕ → World
-afterLine w l = pick (isFrame l) (step w (record { call = callOf (fieldsOf l); lent = kept })) w
+afterLine w l = pick (isFrame l) (step w (record { call = callOf (fieldsOf l); supplied = kept })) w
 
 -- a line feed ends a line; "The last line feed may be missing": what follows the last one is a line unless it is empty. The bytes of the
 -- line so far come first, then the input.

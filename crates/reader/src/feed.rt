@@ -151,7 +151,7 @@ pub fn feed(
     let mut at = 0;
     let mut i = 0;
     while i < input.len() {
-        let turn = feed_byte(
+        let fed = feed_byte(
             words,
             bytes,
             permanent,
@@ -163,8 +163,8 @@ pub fn feed(
             output,
             at,
         );
-        n = turn.len;
-        at = turn.written;
+        n = fed.len;
+        at = fed.written;
         i += 1;
     }
     Fed {

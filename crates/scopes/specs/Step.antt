@@ -10,7 +10,7 @@ use Rattle.model.specs.State.{State, Memory}
 use Rattle.model.specs.Checks.{fits}
 use Rattle.model.specs.Calls.{Call, start, end, make, enter, exit, allocate, store, load, write, read, callStatus, callValue, callState, callMemory, callWords, Reply, Outcome, outcomeOf}
 use Rattle.model.specs.Run.{kept, Line, World, step}
-use Rattle.model.specs.Book.{blank}
+use Rattle.model.specs.History.{blank}
 use Rattle.model.proofs.Outcomes.{unfit}
 use Rattle.tables.specs.Decode.{stateOf, Holds}
 use Rattle.tables.specs.Contract.{memoryOf, Ready, Done, Told, Written}
@@ -38,13 +38,13 @@ pub record Carried (w b p s m w′ b′ p′ s′ m′ : List ℕ) (c : Call) (s
   pub written : Written p′ s′ m′ (outcomeOf (stateOf w b) (memoryOf p s m) c)
   -- and all that is a step of run, of a call that is lent the kept memory, after any trace
   pub steps : (ls : List Line)
-      → step (record { state = stateOf w b; memory = memoryOf p s m; trace = ls }) (record { call = c; lent = kept })
+      → step (record { state = stateOf w b; memory = memoryOf p s m; trace = ls }) (record { call = c; supplied = kept })
       ≡ record { state = stateOf w′ b′; memory = memoryOf p′ s′ m′; trace = record { call = c; reply = record { status = status; value = value; words = [] } } ∷ ls }
 
 -- ---- a step is the outcome
 
 step-is : (s : State) (m : Memory) (c : Call) (ls : List Line)
-    → step (record { state = s; memory = m; trace = ls }) (record { call = c; lent = kept })
+    → step (record { state = s; memory = m; trace = ls }) (record { call = c; supplied = kept })
     ≡ record { state = outcomeOf s m c .state; memory = outcomeOf s m c .memory; trace = record { call = c; reply = outcomeOf s m c .reply } ∷ ls }
 unfolding step
 step-is s m c ls =

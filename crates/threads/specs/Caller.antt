@@ -46,9 +46,9 @@ module _ (s : State) (m : Memory) {r : Bool} (e : r ≡ fits s m) where
 -- ---- the thread
 
 module _ (s : State) (m : Memory) (t rest : ℕ) where
-  pub not-lent : fits s m ≡ false → 1 ≡ admit s m t rest
+  pub not-supplied : fits s m ≡ false → 1 ≡ admit s m t rest
   unfolding admit refuse
-  not-lent e = rw e
+  not-supplied e = rw e
 
   module _ (e : fits s m ≡ true) where
     pub no-thread : 16 ≤ t → 2 ≡ admit s m t rest

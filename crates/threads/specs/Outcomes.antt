@@ -41,7 +41,7 @@ module _ (s : State) (m : Memory) (t : ℕ) where
   -- and the rest of the refusals counts
   pub admit-rest : Admitted s m t → (rest : ℕ) → admit s m t rest ≡ rest
   unfolding admit refuse
-  admit-rest a rest = rw (a .lent, lt-leb 16 t (a .thread), lt-ltb 0 (threadAt s t .kind) (a .started))
+  admit-rest a rest = rw (a .supplied, lt-leb 16 t (a .thread), lt-ltb 0 (threadAt s t .kind) (a .started))
 
 -- ---- answers
 

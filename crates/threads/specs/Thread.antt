@@ -19,9 +19,9 @@ use Rattle.threads.specs.Outcomes.{caller-refused, admit-rest}
 -- ---- op 01
 
 module _ (s : State) (m : Memory) (t p : ℕ) where
-  pub start-not-lent : fits s m ≡ false → 1 ≡ startStatus s m t p
+  pub start-not-supplied : fits s m ≡ false → 1 ≡ startStatus s m t p
   unfolding startStatus refuse
-  start-not-lent e = rw e
+  start-not-supplied e = rw e
 
   module _ (e : fits s m ≡ true) where
     pub start-no-thread : 16 ≤ t → 2 ≡ startStatus s m t p

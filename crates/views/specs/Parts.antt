@@ -25,7 +25,7 @@ use Rattle.objects.specs.Places.{Lies}
 use Rattle.views.specs.declared.Part.{Part}
 use Rattle.access.specs.Statuses.{object-area, object-words}
 use Rattle.access.specs.Effects.{place-is, index-is, object-lies}
-use Rattle.views.specs.Shown.{shownIn, shownFrom, shownLength, partOf, Shown}
+use Rattle.views.specs.PlacedView.{viewStore, viewFrom, viewLength, partOf, PlacedView}
 
 module _ (s : State) (m : Memory) (t p : ℕ) where
   pub view-is : useStatus s m t p 0 ≡ viewStatus s m t p
@@ -35,7 +35,7 @@ module _ (s : State) (m : Memory) (t p : ℕ) where
   -- ---- what is shown, by numbers: of a refused call
 
   pub part-refused : {n : ℕ} → n ≡ useStatus s m t p 0 → n ≢ 0 → record { status = n; store = 0; from = 0; len = 0 } ≡ partOf s m t p
-  unfolding partOf shownIn shownFrom shownLength
+  unfolding partOf viewStore viewFrom viewLength
   part-refused e h = rw (ne-eqb (viewStatus s m t p) 0 (λ z. h (e ∙ view-is ∙ z)), ← view-is, ← e) refl
 
   -- of an accepted one, with its object
@@ -55,7 +55,7 @@ module _ (s : State) (m : Memory) (t p : ℕ) where
         ap (λ (i : ℕ). o .at + 1 + i) (sym d ∙ index-is s m p o e 0) ∙ place-is s m p o e (dataIndex s m p 0)
 
     pub part-accepted : record { status = 0; store = pick (isScope (o .area)) 1 0; from = o .at + 1 + o .slots; len = o .words } ≡ partOf s m t p
-    unfolding partOf shownIn shownFrom shownLength
+    unfolding partOf viewStore viewFrom viewLength
     part-accepted = rw (accepted, area-is, words-is, from-is) refl
 
     pub object-in : Good s → Lies m o
@@ -63,12 +63,12 @@ module _ (s : State) (m : Memory) (t p : ℕ) where
 
   -- ---- the words there; store 0 is the permanent one, any other the scratch
 
-  words-there : take (shownLength s m t p) (drop (shownFrom s m t p) (shownIn s m t p (m .permanent) (m .scratch))) ≡ viewWords s m t p
-  unfolding viewWords shownIn shownFrom shownLength
+  words-there : take (viewLength s m t p) (drop (viewFrom s m t p) (viewStore s m t p (m .permanent) (m .scratch))) ≡ viewWords s m t p
+  unfolding viewWords viewStore viewFrom viewLength
   words-there = cases (eqb (viewStatus s m t p) 0) (λ k. rw k refl) (λ k. rw k refl)
 
-  in-permanent : {A : Type 0} (x y : A) → _≡_ {A = ℕ} (shownIn s m t p 0 1) 0 → shownIn s m t p x y ≡ x
-  unfolding shownIn
+  in-permanent : {A : Type 0} (x y : A) → _≡_ {A = ℕ} (viewStore s m t p 0 1) 0 → viewStore s m t p x y ≡ x
+  unfolding viewStore
   in-permanent x y = by (eqb (viewStatus s m t p) 0) (isScope (areaOf p))
     where
       by : (b c : Bool) → _≡_ {A = ℕ} (pick b (pick c 1 0) 0) 0 → pick b (pick c y x) x ≡ x
@@ -76,8 +76,8 @@ module _ (s : State) (m : Memory) (t p : ℕ) where
       by true false h = refl
       by false c h = refl
 
-  in-scratch : {A : Type 0} (x y : A) → _≢_ {A = ℕ} (shownIn s m t p 0 1) 0 → shownIn s m t p x y ≡ y
-  unfolding shownIn
+  in-scratch : {A : Type 0} (x y : A) → _≢_ {A = ℕ} (viewStore s m t p 0 1) 0 → viewStore s m t p x y ≡ y
+  unfolding viewStore
   in-scratch x y = by (eqb (viewStatus s m t p) 0) (isScope (areaOf p))
     where
       by : (b c : Bool) → _≢_ {A = ℕ} (pick b (pick c 1 0) 0) 0 → pick b (pick c y x) x ≡ y
@@ -85,9 +85,9 @@ module _ (s : State) (m : Memory) (t p : ℕ) where
       by true false h = absurd (h refl)
       by false c h = absurd (h refl)
 
-  room : Good s → (shownFrom s m t p + shownLength s m t p ≤ 16384)
-      × (shownFrom s m t p + shownLength s m t p ≤ length (shownIn s m t p (m .permanent) (m .scratch)))
-  unfolding shownIn shownFrom shownLength
+  room : Good s → (viewFrom s m t p + viewLength s m t p ≤ 16384)
+      × (viewFrom s m t p + viewLength s m t p ≤ length (viewStore s m t p (m .permanent) (m .scratch)))
+  unfolding viewStore viewFrom viewLength
   room g = cases (eqb (viewStatus s m t p) 0)
       (λ k. let z : useStatus s m t p 0 ≡ 0 = view-is ∙ eqb-true (viewStatus s m t p) 0 k in
       let o : Object = objectOf s m p in
@@ -97,23 +97,23 @@ module _ (s : State) (m : Memory) (t p : ℕ) where
 
   -- a place that is answered, and the words of one store and where it begins
   module _ (r : Part) (e : r ≡ partOf s m t p) where
-    store-is : r .store ≡ shownIn s m t p 0 1
+    store-is : r .store ≡ viewStore s m t p 0 1
     unfolding partOf
     store-is = ap (λ (x : Part). x .store) e
 
-    starts : r .from ≡ shownFrom s m t p
+    starts : r .from ≡ viewFrom s m t p
     unfolding partOf
     starts = ap (λ (x : Part). x .from) e
 
-    counts : r .len ≡ shownLength s m t p
+    counts : r .len ≡ viewLength s m t p
     unfolding partOf
     counts = ap (λ (x : Part). x .len) e
 
-    ends : (l : List ℕ) → shownIn s m t p (m .permanent) (m .scratch) ≡ l → Good s → r .from + r .len ≤ length l
+    ends : (l : List ℕ) → viewStore s m t p (m .permanent) (m .scratch) ≡ l → Good s → r .from + r .len ≤ length l
     ends l el g = omega (arith, room g .1, starts, counts, ap (length {A = ℕ}) el)
 
-    module _ (l : List ℕ) (b permanent scratch : ℕ × ℕ) (el : shownIn s m t p (m .permanent) (m .scratch) ≡ l) (eb : shownIn s m t p permanent scratch ≡ b) where
-      viewed : (take (r .from + r .len - r .from) (drop (r .from) l) ≡ viewWords s m t p) × Shown (b .0, r .from * 8 + b .1) permanent scratch s m t p
+    module _ (l : List ℕ) (b permanent scratch : ℕ × ℕ) (el : viewStore s m t p (m .permanent) (m .scratch) ≡ l) (eb : viewStore s m t p permanent scratch ≡ b) where
+      viewed : (take (r .from + r .len - r .from) (drop (r .from) l) ≡ viewWords s m t p) × PlacedView (b .0, r .from * 8 + b .1) permanent scratch s m t p
       viewed = (
         rw (add-sub-cancel-left, starts, counts, ← el) words-there,
         record { store-is = ap (λ (x : ℕ × ℕ). x .0) (sym eb); place-is = rw (starts, ← eb) refl },
@@ -128,7 +128,7 @@ module _ (s : State) (m : Memory) (t p : ℕ) where
 
       pub view-permanent : (permanent scratch : ℕ × ℕ)
           → (take (r .from + r .len - r .from) (drop (r .from) (m .permanent)) ≡ viewWords s m t p)
-          × Shown (permanent .0, r .from * 8 + permanent .1) permanent scratch s m t p
+          × PlacedView (permanent .0, r .from * 8 + permanent .1) permanent scratch s m t p
       view-permanent permanent scratch =
           viewed (m .permanent) permanent permanent scratch (in-permanent (m .permanent) (m .scratch) (sym store-is ∙ h)) (in-permanent permanent scratch (sym store-is ∙ h))
 
@@ -138,6 +138,6 @@ module _ (s : State) (m : Memory) (t p : ℕ) where
 
       pub view-scratch : (permanent scratch : ℕ × ℕ)
           → (take (r .from + r .len - r .from) (drop (r .from) (m .scratch)) ≡ viewWords s m t p)
-          × Shown (scratch .0, r .from * 8 + scratch .1) permanent scratch s m t p
+          × PlacedView (scratch .0, r .from * 8 + scratch .1) permanent scratch s m t p
       view-scratch permanent scratch =
           viewed (m .scratch) scratch permanent scratch (in-scratch (m .permanent) (m .scratch) (λ z. h (store-is ∙ z))) (in-scratch permanent scratch (λ z. h (store-is ∙ z)))

@@ -9,7 +9,7 @@ ghost use Rattle.model.specs.Data.{viewWords};
 ghost use Rattle.model.specs.Calls as calls;
 ghost use Rattle.tables.specs.Decode.{stateOf};
 ghost use Rattle.tables.specs.Contract.{memoryOf, Ready, Told};
-ghost use Rattle.views.specs.Shown.{partOf, Shown};
+ghost use Rattle.views.specs.PlacedView.{partOf, PlacedView};
 
 // A shown part by numbers: the status of the call; store 0 for the permanent one, 1 for the scratch;
 // which of its words is the first that is shown, and how many are. Refused: all 0 but the status.
@@ -73,7 +73,7 @@ pub fn view<'a>(
 ) -> &'a [u64]
     requires { ⌜ Ready (now words) (now bytes) ⌝ }
     ensures { λ r. ⌜ now r ≡ viewWords (stateOf (now (words .entry)) (now (bytes .entry))) (memoryOf (now (permanent .entry)) (now (scratch .entry)) (now (map .entry))) t p ⌝ }
-    ensures { λ r. ⌜ Shown (r .ptr) (permanent .entry .ptr) (scratch .entry .ptr) (stateOf (now (words .entry)) (now (bytes .entry))) (memoryOf (now (permanent .entry)) (now (scratch .entry)) (now (map .entry))) t p ⌝ }
+    ensures { λ r. ⌜ PlacedView (r .ptr) (permanent .entry .ptr) (scratch .entry .ptr) (stateOf (now (words .entry)) (now (bytes .entry))) (memoryOf (now (permanent .entry)) (now (scratch .entry)) (now (map .entry))) t p ⌝ }
 {
     let part = view_place(words, bytes, permanent, scratch, map, t, p);
     let from = part.from as usize;

@@ -5,7 +5,7 @@ use reference::calls::{Call, Op};
 use reference::memory::Memory;
 
 use crate::exports::*;
-use crate::lent::Lent;
+use crate::supplied::Supplied;
 
 /// A call on a state: one of the ops, or one of the two calls of the shown part.
 #[derive(Clone, Copy, Debug, PartialEq, Eq)]
@@ -54,9 +54,9 @@ pub fn set_up(memory: &Memory, heap: u64, immortal: u64) -> NewState {
 
 /// Calls an exported function with a state, the buffers and numbers.
 macro_rules! call {
-    ($function:ident, $state:ident, $lent:ident, $($number:expr),*) => {{
-        let (permanent, scratch) = ($lent.permanent.words_mut(), $lent.scratch.words_mut());
-        let map = $lent.map.words_mut();
+    ($function:ident, $state:ident, $supplied:ident, $($number:expr),*) => {{
+        let (permanent, scratch) = ($supplied.permanent.words_mut(), $supplied.scratch.words_mut());
+        let map = $supplied.map.words_mut();
         // SAFETY: the tables have their sizes and hold a state of set-up and calls, but for the
         // generation of a scope that is not open, which may be any up to the last; the buffers are
         // slices with their own lengths, apart from each other.
@@ -76,37 +76,37 @@ macro_rules! call {
     }};
 }
 
-pub fn call(state: &mut NewState, lent: &mut Lent, request: Request) -> Reply {
+pub fn call(state: &mut NewState, supplied: &mut Supplied, request: Request) -> Reply {
     match request {
-        Request::Call(Call { thread, op }) => Reply::Answer(call_op(state, lent, thread, op)),
+        Request::Call(Call { thread, op }) => Reply::Answer(call_op(state, supplied, thread, op)),
         Request::ViewStatus { thread, object } => {
-            Reply::Answer(call!(scopes_view_status, state, lent, thread, object))
+            Reply::Answer(call!(scopes_view_status, state, supplied, thread, object))
         }
         Request::ViewPlace { thread, object } => {
-            Reply::Part(call!(scopes_view_place, state, lent, thread, object))
+            Reply::Part(call!(scopes_view_place, state, supplied, thread, object))
         }
     }
 }
 
-fn call_op(state: &mut NewState, lent: &mut Lent, t: u64, op: Op) -> Answer {
+fn call_op(state: &mut NewState, supplied: &mut Supplied, t: u64, op: Op) -> Answer {
     match op {
-        Op::Start { kind } => call!(scopes_start, state, lent, t, kind),
-        Op::End => call!(scopes_end, state, lent, t),
-        Op::Make { area, size } => call!(scopes_make, state, lent, t, area, size),
-        Op::Enter { area } => call!(scopes_enter, state, lent, t, area),
-        Op::Exit => call!(scopes_exit, state, lent, t),
-        Op::Allocate { slots, data } => call!(scopes_allocate, state, lent, t, slots, data),
+        Op::Start { kind } => call!(scopes_start, state, supplied, t, kind),
+        Op::End => call!(scopes_end, state, supplied, t),
+        Op::Make { area, size } => call!(scopes_make, state, supplied, t, area, size),
+        Op::Enter { area } => call!(scopes_enter, state, supplied, t, area),
+        Op::Exit => call!(scopes_exit, state, supplied, t),
+        Op::Allocate { slots, data } => call!(scopes_allocate, state, supplied, t, slots, data),
         Op::Store {
             object,
             slot,
             target,
-        } => call!(scopes_store, state, lent, t, object, slot, target),
-        Op::Load { object, slot } => call!(scopes_load, state, lent, t, object, slot),
+        } => call!(scopes_store, state, supplied, t, object, slot, target),
+        Op::Load { object, slot } => call!(scopes_load, state, supplied, t, object, slot),
         Op::Write {
             object,
             index,
             word,
-        } => call!(scopes_write, state, lent, t, object, index, word),
-        Op::Read { object, index } => call!(scopes_read, state, lent, t, object, index),
+        } => call!(scopes_write, state, supplied, t, object, index, word),
+        Op::Read { object, index } => call!(scopes_read, state, supplied, t, object, index),
     }
 }

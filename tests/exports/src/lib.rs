@@ -4,8 +4,8 @@
 pub mod calls;
 pub mod chooser;
 pub mod exports;
-pub mod lent;
 pub mod list;
 pub mod pair;
 pub mod records;
+pub mod supplied;
 pub mod tally;

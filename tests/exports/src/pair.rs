@@ -8,7 +8,7 @@ use reference::state::{self, State};
 use crate::calls::{self, Reply, Request};
 use crate::chooser::Seen;
 use crate::exports::{Answer, NewState, Part};
-use crate::lent::Lent;
+use crate::supplied::Supplied;
 
 /// Where a scope's generation stands in the tables: the fourth of the eight words of its area.
 const GENERATION: usize = 3;
@@ -16,7 +16,7 @@ const GENERATION: usize = 3;
 pub struct Pair {
     /// The proved core: its tables and what it is lent.
     given: NewState,
-    lent: Lent,
+    supplied: Supplied,
     /// The second implementation.
     pub state: State,
     pub memory: Memory,
@@ -40,10 +40,10 @@ impl Pair {
         } else {
             Memory::zeroed(Default::default())
         };
-        let lent = Lent::new(&memory);
+        let supplied = Supplied::new(&memory);
         let pair = Pair {
             given,
-            lent,
+            supplied,
             state,
             memory,
         };
@@ -61,19 +61,19 @@ impl Pair {
     /// A call on the kept buffers.
     pub fn call(&mut self, request: Request) -> Result<Reply, String> {
         let before = self.given.clone();
-        let given = calls::call(&mut self.given, &mut self.lent, request);
+        let given = calls::call(&mut self.given, &mut self.supplied, request);
         let expected = expected(&mut self.state, &mut self.memory, request);
-        let difference = self.lent.difference(&self.memory);
+        let difference = self.supplied.difference(&self.memory);
         self.compare(request, &before, given, expected, difference)
     }
 
     /// A call on other buffers, of other lengths, which are not kept.
     pub fn call_on(&mut self, other: &Memory, request: Request) -> Result<Reply, String> {
         let before = self.given.clone();
-        let (mut lent, mut memory) = (Lent::new(other), other.clone());
-        let given = calls::call(&mut self.given, &mut lent, request);
+        let (mut supplied, mut memory) = (Supplied::new(other), other.clone());
+        let given = calls::call(&mut self.given, &mut supplied, request);
         let expected = expected(&mut self.state, &mut memory, request);
-        let difference = lent.difference(&memory);
+        let difference = supplied.difference(&memory);
         self.compare(request, &before, given, expected, difference)
     }
 
@@ -101,9 +101,9 @@ impl Pair {
     pub fn poke(&mut self, buffer: Buffer, place: u64, word: u64) {
         let place = place as usize;
         let (given, expected) = match buffer {
-            Buffer::Permanent => (&mut self.lent.permanent, &mut self.memory.permanent),
-            Buffer::Scratch => (&mut self.lent.scratch, &mut self.memory.scratch),
-            Buffer::Map => (&mut self.lent.map, &mut self.memory.start_map),
+            Buffer::Permanent => (&mut self.supplied.permanent, &mut self.memory.permanent),
+            Buffer::Scratch => (&mut self.supplied.scratch, &mut self.memory.scratch),
+            Buffer::Map => (&mut self.supplied.map, &mut self.memory.start_map),
         };
         given.words_mut()[place] = word;
         expected[place] = word;
@@ -127,7 +127,7 @@ pub enum Buffer {
 fn expected(state: &mut State, memory: &mut Memory, request: Request) -> Reply {
     let answer = match request {
         Request::Call(call) => state.run(memory, call),
-        Request::ViewStatus { thread, object } => state.shown_part_status(memory, thread, object),
+        Request::ViewStatus { thread, object } => state.view_status_of(memory, thread, object),
         Request::ViewPlace { thread, object } => {
             return Reply::Part(expected_part(state, memory, thread, object))
         }
@@ -141,8 +141,8 @@ fn expected(state: &mut State, memory: &mut Memory, request: Request) -> Reply {
 /// The shown part as numbers: the store, the first word, the length. The part of a refused call is
 /// empty and has no place.
 fn expected_part(state: &State, memory: &Memory, thread: u64, object: u64) -> Part {
-    let status = state.shown_part_status(memory, thread, object).status;
-    let shown = state.shown_part(memory, thread, object);
+    let status = state.view_status_of(memory, thread, object).status;
+    let shown = state.view_of(memory, thread, object);
     let accepted = status == 0;
     let object = accepted.then(|| state.resolve(memory, object)).flatten();
     let permanent = memory.permanent.len() as u64;

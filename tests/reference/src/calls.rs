@@ -41,13 +41,13 @@ pub enum Op {
 }
 
 impl State {
-    pub fn run(&mut self, lent: &mut Memory, call: Call) -> Answer {
-        self.outcome(lent, call).into()
+    pub fn run(&mut self, supplied: &mut Memory, call: Call) -> Answer {
+        self.outcome(supplied, call).into()
     }
 
-    fn outcome(&mut self, lent: &mut Memory, call: Call) -> Outcome {
+    fn outcome(&mut self, supplied: &mut Memory, call: Call) -> Outcome {
         // "Every later call compares the three lengths."
-        self.check_lengths(lent)?;
+        self.check_lengths(supplied)?;
         let thread = call.thread;
         match call.op {
             Op::Start { kind } => self.start(thread, kind),
@@ -55,41 +55,46 @@ impl State {
             Op::Make { area, size } => self.make(thread, area, size),
             Op::Enter { area } => self.enter(thread, area),
             Op::Exit => self.exit(thread),
-            Op::Allocate { slots, data } => self.allocate(lent, thread, slots, data),
+            Op::Allocate { slots, data } => self.allocate(supplied, thread, slots, data),
             Op::Store {
                 object,
                 slot,
                 target,
-            } => self.store(lent, thread, object, slot, target),
-            Op::Load { object, slot } => self.load(lent, thread, object, slot),
+            } => self.store(supplied, thread, object, slot, target),
+            Op::Load { object, slot } => self.load(supplied, thread, object, slot),
             Op::Write {
                 object,
                 index,
                 word,
-            } => self.write(lent, thread, object, index, word),
-            Op::Read { object, index } => self.read(lent, thread, object, index),
+            } => self.write(supplied, thread, object, index, word),
+            Op::Read { object, index } => self.read(supplied, thread, object, index),
         }
     }
 
     /// "exactly its d words"; a refusal shows "a part of length 0".
-    pub fn shown_part<'a>(&self, lent: &'a Memory, thread: u64, object: u64) -> &'a [u64] {
-        match self.shown_object(lent, thread, object) {
-            Ok(object) => lent.part(object.first_data(), object.header.data),
+    pub fn view_of<'a>(&self, supplied: &'a Memory, thread: u64, object: u64) -> &'a [u64] {
+        match self.viewed_object(supplied, thread, object) {
+            Ok(object) => supplied.part(object.first_data(), object.header.data),
             Err(_) => &[],
         }
     }
 
     /// "a call beside it yields the status"
-    pub fn shown_part_status(&self, lent: &Memory, thread: u64, object: u64) -> Answer {
-        let outcome = self.shown_object(lent, thread, object);
+    pub fn view_status_of(&self, supplied: &Memory, thread: u64, object: u64) -> Answer {
+        let outcome = self.viewed_object(supplied, thread, object);
         outcome.map(|_| 0).into()
     }
 
     /// "Refusals of this call (1, 2, 13, 5)"
-    fn shown_object(&self, lent: &Memory, thread: u64, object: u64) -> Result<Object, Refusal> {
-        self.check_lengths(lent)?;
+    fn viewed_object(
+        &self,
+        supplied: &Memory,
+        thread: u64,
+        object: u64,
+    ) -> Result<Object, Refusal> {
+        self.check_lengths(supplied)?;
         let kind = self.check_thread(thread)?;
-        self.usable_object(lent, kind, object)
+        self.usable_object(supplied, kind, object)
     }
 
     /// Op 01: 1, 2, 3, 4.
@@ -197,7 +202,7 @@ impl State {
     }
 
     /// Op 06: 1, 2, 5, 12.
-    fn allocate(&mut self, lent: &mut Memory, thread: u64, slots: u64, data: u64) -> Outcome {
+    fn allocate(&mut self, supplied: &mut Memory, thread: u64, slots: u64, data: u64) -> Outcome {
         let kind = self.check_thread(thread)?;
         let current = self.current_area(thread);
         check_right(kind, current, Right::Allocate)?;
@@ -206,7 +211,7 @@ impl State {
         refuse_if(needed > u128::from(area.size), Refusal::Room)?;
         let offset = area.used;
         let header = Header { slots, data };
-        write_object(lent, area.first + offset, header);
+        write_object(supplied, area.first + offset, header);
         area.used += header.words();
         let generation = area.generation;
         let handle = Handle {
@@ -220,51 +225,58 @@ impl State {
     /// Op 07: 1, 2, 13, 5 (U), 14, 15, 5 (R), 16.
     fn store(
         &self,
-        lent: &mut Memory,
+        supplied: &mut Memory,
         thread: u64,
         object: u64,
         slot: u64,
         target: u64,
     ) -> Outcome {
         let kind = self.check_thread(thread)?;
-        let holder = self.usable_object(lent, kind, object)?;
+        let holder = self.usable_object(supplied, kind, object)?;
         refuse_if(slot >= holder.header.slots, Refusal::Index)?;
-        self.check_reference(lent, kind, target)?;
+        self.check_reference(supplied, kind, target)?;
         self.check_assignment(holder.area, target)?;
-        lent.set_word(holder.first_slot() + slot, target);
+        supplied.set_word(holder.first_slot() + slot, target);
         Ok(0)
     }
 
     /// Op 08: 1, 2, 13, 5 (U), 14, 15, 5 (R).
-    fn load(&self, lent: &Memory, thread: u64, object: u64, slot: u64) -> Outcome {
+    fn load(&self, supplied: &Memory, thread: u64, object: u64, slot: u64) -> Outcome {
         let kind = self.check_thread(thread)?;
-        let holder = self.usable_object(lent, kind, object)?;
+        let holder = self.usable_object(supplied, kind, object)?;
         refuse_if(slot >= holder.header.slots, Refusal::Index)?;
-        let stored = lent.word(holder.first_slot() + slot);
-        self.check_reference(lent, kind, stored)?;
+        let stored = supplied.word(holder.first_slot() + slot);
+        self.check_reference(supplied, kind, stored)?;
         Ok(stored)
     }
 
     /// Op 09: 1, 2, 13, 5, 14.
-    fn write(&self, lent: &mut Memory, thread: u64, object: u64, index: u64, word: u64) -> Outcome {
+    fn write(
+        &self,
+        supplied: &mut Memory,
+        thread: u64,
+        object: u64,
+        index: u64,
+        word: u64,
+    ) -> Outcome {
         let kind = self.check_thread(thread)?;
-        let object = self.usable_object(lent, kind, object)?;
+        let object = self.usable_object(supplied, kind, object)?;
         refuse_if(index >= object.header.data, Refusal::Index)?;
-        lent.set_word(object.first_data() + index, word);
+        supplied.set_word(object.first_data() + index, word);
         Ok(0)
     }
 
     /// Op 0a: 1, 2, 13, 5, 14.
-    fn read(&self, lent: &Memory, thread: u64, object: u64, index: u64) -> Outcome {
+    fn read(&self, supplied: &Memory, thread: u64, object: u64, index: u64) -> Outcome {
         let kind = self.check_thread(thread)?;
-        let object = self.usable_object(lent, kind, object)?;
+        let object = self.usable_object(supplied, kind, object)?;
         refuse_if(index >= object.header.data, Refusal::Index)?;
-        Ok(lent.word(object.first_data() + index))
+        Ok(supplied.word(object.first_data() + index))
     }
 
     /// Refusal 1: "lengths are not those of set-up".
-    fn check_lengths(&self, lent: &Memory) -> Result<(), Refusal> {
-        refuse_if(lent.lengths() != self.lengths, Refusal::Lengths)
+    fn check_lengths(&self, supplied: &Memory) -> Result<(), Refusal> {
+        refuse_if(supplied.lengths() != self.lengths, Refusal::Lengths)
     }
 
     /// Refusal 2: "thread above 15, or not started".
@@ -274,19 +286,19 @@ impl State {
     }
 
     /// Refusal 13, "object null or not live", then 5 (U).
-    fn usable_object(&self, lent: &Memory, kind: Kind, word: u64) -> Result<Object, Refusal> {
+    fn usable_object(&self, supplied: &Memory, kind: Kind, word: u64) -> Result<Object, Refusal> {
         refuse_if(word == NULL, Refusal::Object)?;
-        let object = self.resolve(lent, word).ok_or(Refusal::Object)?;
+        let object = self.resolve(supplied, word).ok_or(Refusal::Object)?;
         check_right(kind, object.area, Right::Use)?;
         Ok(object)
     }
 
     /// Refusal 15, "neither null nor live", then 5 (R), "where null always passes".
-    fn check_reference(&self, lent: &Memory, kind: Kind, word: u64) -> Result<(), Refusal> {
+    fn check_reference(&self, supplied: &Memory, kind: Kind, word: u64) -> Result<(), Refusal> {
         if word == NULL {
             return Ok(());
         }
-        let target = self.resolve(lent, word).ok_or(Refusal::Target)?;
+        let target = self.resolve(supplied, word).ok_or(Refusal::Target)?;
         check_right(kind, target.area, Right::Refer)
     }
 
@@ -304,11 +316,11 @@ fn check_right(kind: Kind, area: u64, right: Right) -> Result<(), Refusal> {
 
 /// The header, then "sets slots and data to 0, sets the map bit of the header and clears those of
 /// its other words".
-fn write_object(lent: &mut Memory, first: u64, header: Header) {
-    lent.set_word(first, header.pack());
-    lent.set_start(first, true);
+fn write_object(supplied: &mut Memory, first: u64, header: Header) {
+    supplied.set_word(first, header.pack());
+    supplied.set_start(first, true);
     for number in first + 1..first + header.words() {
-        lent.set_word(number, 0);
-        lent.set_start(number, false);
+        supplied.set_word(number, 0);
+        supplied.set_start(number, false);
     }
 }

@@ -1,6 +1,6 @@
 //! Every claim of the third demand, tried by brute force against the book.
 
-use crate::book::{Book, MadeObject};
+use crate::history::{History, MadeObject};
 use crate::layout::{Handle, NULL};
 use crate::machine::Machine;
 use crate::random::Random;
@@ -11,14 +11,14 @@ use crate::state::{is_scope, AREAS, HEAP, IMMORTAL};
 pub type Claim = Result<(), String>;
 
 /// The claims that are cheap enough for each call.
-pub fn hold(machine: &Machine, book: &Book) -> Claim {
-    same_threads(machine, book)?;
-    same_scopes(machine, book)?;
-    ancestors_in_order(book)?;
-    walk_is_scan(machine, book)?;
-    walk_is_rule(machine, book)?;
-    references_are_sound(machine, book)?;
-    given_handles_are_exact(machine, book)
+pub fn hold(machine: &Machine, history: &History) -> Claim {
+    same_threads(machine, history)?;
+    same_scopes(machine, history)?;
+    ancestors_in_order(history)?;
+    walk_is_scan(machine, history)?;
+    walk_is_rule(machine, history)?;
+    references_are_sound(machine, history)?;
+    given_handles_are_exact(machine, history)
 }
 
 fn claim(holds: bool, words: impl FnOnce() -> String) -> Claim {
@@ -30,10 +30,10 @@ fn claim(holds: bool, words: impl FnOnce() -> String) -> Claim {
 }
 
 /// "The core has the book's started threads, stacks ..."
-fn same_threads(machine: &Machine, book: &Book) -> Claim {
-    for (number, row) in book.rows.iter().enumerate() {
+fn same_threads(machine: &Machine, history: &History) -> Claim {
+    for (number, row) in history.rows.iter().enumerate() {
         let thread = &machine.state.threads[number];
-        claim(thread.kind == book.kinds[number], || {
+        claim(thread.kind == history.kinds[number], || {
             format!("thread {number} has kind {:?}", thread.kind)
         })?;
         let expected = row.as_deref().unwrap_or(&[]);
@@ -45,18 +45,18 @@ fn same_threads(machine: &Machine, book: &Book) -> Claim {
 }
 
 /// "... open scopes and parents."
-fn same_scopes(machine: &Machine, book: &Book) -> Claim {
-    let open_scopes = book.open_scopes();
+fn same_scopes(machine: &Machine, history: &History) -> Claim {
+    let open_scopes = history.open_scopes();
     for scope in 0..AREAS {
         let open = open_scopes.contains(&scope);
         claim(machine.state.is_open(scope) == open, || {
             format!("scope {scope} is open: {}", !open)
         })?;
-        let parent = book.parents.get(&scope).copied().flatten();
+        let parent = history.parents.get(&scope).copied().flatten();
         claim(machine.state.area(scope).parent == parent, || {
             format!("scope {scope} has not the parent {parent:?}")
         })?;
-        claim(book.parents.contains_key(&scope) == open, || {
+        claim(history.parents.contains_key(&scope) == open, || {
             format!("the book's parent of {scope} does not fit its rows")
         })?;
     }
@@ -64,10 +64,10 @@ fn same_scopes(machine: &Machine, book: &Book) -> Claim {
 }
 
 /// "Every thread in a scope stands in all that scope's ancestors, in their order."
-fn ancestors_in_order(book: &Book) -> Claim {
-    for row in book.rows.iter().flatten() {
+fn ancestors_in_order(history: &History) -> Claim {
+    for row in history.rows.iter().flatten() {
         for (place, &scope) in row.iter().enumerate() {
-            stands_in_ancestors(book, row, place)
+            stands_in_ancestors(history, row, place)
                 .ok_or_else(|| format!("row {row:?} lacks an ancestor of {scope}"))?;
         }
     }
@@ -75,9 +75,9 @@ fn ancestors_in_order(book: &Book) -> Claim {
 }
 
 /// "each one met stands below the one met before it, outermost lowest"
-fn stands_in_ancestors(book: &Book, row: &[u64], place: usize) -> Option<()> {
+fn stands_in_ancestors(history: &History, row: &[u64], place: usize) -> Option<()> {
     let mut below = place;
-    for ancestor in book.walk(row[place]).into_iter().skip(1) {
+    for ancestor in history.walk(row[place]).into_iter().skip(1) {
         below = row[..below].iter().position(|&area| area == ancestor)?;
     }
     Some(())
@@ -85,8 +85,8 @@ fn stands_in_ancestors(book: &Book, row: &[u64], place: usize) -> Option<()> {
 
 /// "Of scopes A and B the walk says yes if from B it meets A, ... the scan if on the thread's row A
 /// stands no higher than B."
-fn walk_is_scan(machine: &Machine, book: &Book) -> Claim {
-    for row in book.rows.iter().flatten() {
+fn walk_is_scan(machine: &Machine, history: &History) -> Claim {
+    for row in history.rows.iter().flatten() {
         let scopes: Vec<u64> = row.iter().copied().filter(|&a| is_scope(a)).collect();
         for (place_b, &b) in scopes.iter().enumerate() {
             let met: Vec<u64> = machine.state.walk(b).collect();
@@ -101,11 +101,11 @@ fn walk_is_scan(machine: &Machine, book: &Book) -> Claim {
 }
 
 /// The core's verdict on a store equals the book's walk, for any two areas that have objects.
-fn walk_is_rule(machine: &Machine, book: &Book) -> Claim {
-    let mut areas = book.open_scopes();
+fn walk_is_rule(machine: &Machine, history: &History) -> Claim {
+    let mut areas = history.open_scopes();
     areas.extend([HEAP, IMMORTAL]);
     for &holder in &areas {
-        let met = book.walk(holder);
+        let met = history.walk(holder);
         for &target in &areas {
             let allowed = !is_scope(target) || met.contains(&target);
             claim(machine.state.may_hold(holder, target) == allowed, || {
@@ -119,9 +119,9 @@ fn walk_is_rule(machine: &Machine, book: &Book) -> Claim {
 /// "Every reference in a live object is null or names a live object: one in the heap, in immortal
 /// memory, or in a scope that ... has never been empty of threads since that object was made." That
 /// live objects are held since they were made is tried with the given handles.
-fn references_are_sound(machine: &Machine, book: &Book) -> Claim {
-    let live = LiveNumbers::new(book);
-    for holder in book.live_objects() {
+fn references_are_sound(machine: &Machine, history: &History) -> Claim {
+    let live = LiveNumbers::new(history);
+    for holder in history.live_objects() {
         for slot in 0..holder.slots {
             let word = reference(machine, holder, slot);
             claim(word == NULL || live.contains(word), || {
@@ -136,20 +136,20 @@ fn references_are_sound(machine: &Machine, book: &Book) -> Claim {
 fn reference(machine: &Machine, holder: &MadeObject, slot: u64) -> u64 {
     let handle = Handle::unpack(holder.handle);
     let area = machine.state.area(handle.area);
-    machine.lent.word(area.first + handle.offset + 1 + slot)
+    machine.supplied.word(area.first + handle.offset + 1 + slot)
 }
 
 /// "a handle whose object is gone is never accepted as one again", and no handle is given twice.
-fn given_handles_are_exact(machine: &Machine, book: &Book) -> Claim {
-    let mut given: Vec<u64> = book.objects.iter().map(|object| object.handle).collect();
+fn given_handles_are_exact(machine: &Machine, history: &History) -> Claim {
+    let mut given: Vec<u64> = history.objects.iter().map(|object| object.handle).collect();
     given.sort_unstable();
     let twice = given.windows(2).find(|pair| pair[0] == pair[1]);
     claim(twice.is_none(), || format!("given twice: {twice:x?}"))?;
-    for object in &book.objects {
+    for object in &history.objects {
         claim(machine.is_live(object.handle) != object.gone, || {
             format!("given {:x} is live: {}", object.handle, object.gone)
         })?;
-        claim(object.gone != book.held_since_made(object), || {
+        claim(object.gone != history.held_since_made(object), || {
             format!("object {:x} is gone: {}", object.handle, object.gone)
         })?;
     }
@@ -163,8 +163,8 @@ pub struct LiveNumbers {
 }
 
 impl LiveNumbers {
-    pub fn new(book: &Book) -> LiveNumbers {
-        let live = book.live_objects().map(|object| object.handle);
+    pub fn new(history: &History) -> LiveNumbers {
+        let live = history.live_objects().map(|object| object.handle);
         let mut sorted: Vec<u64> = live.collect();
         sorted.sort_unstable();
         LiveNumbers { sorted }
@@ -183,9 +183,9 @@ impl LiveNumbers {
 }
 
 /// Tries every neighbour of every given handle, and random words.
-pub fn neighbours_are_exact(machine: &Machine, book: &Book, random: &mut Random) -> Claim {
-    let live = LiveNumbers::new(book);
-    for object in &book.objects {
+pub fn neighbours_are_exact(machine: &Machine, history: &History, random: &mut Random) -> Claim {
+    let live = LiveNumbers::new(history);
+    for object in &history.objects {
         for bit in 0..64 {
             live.is_exact(machine, object.handle ^ (1 << bit))?;
         }
@@ -229,8 +229,8 @@ fn with(handle: Handle, area: u64, generation: u64) -> u64 {
 }
 
 /// Tries every offset of every area, under its generation and the one before.
-pub fn all_offsets_are_exact(machine: &Machine, book: &Book) -> Claim {
-    let live = LiveNumbers::new(book);
+pub fn all_offsets_are_exact(machine: &Machine, history: &History) -> Claim {
+    let live = LiveNumbers::new(history);
     for area in 0..AREAS {
         let Some(last) = machine.state.area(area).size.checked_sub(1) else {
             continue;
@@ -251,11 +251,11 @@ pub fn all_offsets_are_exact(machine: &Machine, book: &Book) -> Claim {
 }
 
 /// The shown part and its status call, by what the book knows of the thread and the number.
-pub fn shown_part_is_exact(machine: &Machine, book: &Book, thread: u64, word: u64) -> Claim {
+pub fn view_is_exact(machine: &Machine, history: &History, thread: u64, word: u64) -> Claim {
     let state = &machine.state;
-    let status = state.shown_part_status(&machine.lent, thread, word);
-    let length = state.shown_part(&machine.lent, thread, word).len() as u64;
-    let (expected, words) = expected_part(book, thread, word);
+    let status = state.view_status_of(&machine.supplied, thread, word);
+    let length = state.view_of(&machine.supplied, thread, word).len() as u64;
+    let (expected, words) = expected_part(history, thread, word);
     claim((status.status, length) == (expected, words), || {
         format!("thread {thread} is shown {length} words of {word:x}, {status:?}")
     })?;
@@ -263,11 +263,11 @@ pub fn shown_part_is_exact(machine: &Machine, book: &Book, thread: u64, word: u6
 }
 
 /// The status and the length, from the book alone: "1, 2, 13, 5".
-fn expected_part(book: &Book, thread: u64, word: u64) -> (u64, u64) {
-    let Some(kind) = book.kinds.get(thread as usize).copied().flatten() else {
+fn expected_part(history: &History, thread: u64, word: u64) -> (u64, u64) {
+    let Some(kind) = history.kinds.get(thread as usize).copied().flatten() else {
         return (2, 0);
     };
-    let mut live = book.live_objects();
+    let mut live = history.live_objects();
     let Some(object) = live.find(|object| object.handle == word) else {
         return (13, 0);
     };

@@ -5,11 +5,11 @@
 
 pub mod answer;
 pub mod arguments;
-pub mod book;
 pub mod calls;
 pub mod claims;
 pub mod frame;
 pub mod generator;
+pub mod history;
 pub mod layout;
 pub mod machine;
 pub mod memory;

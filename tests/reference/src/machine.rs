@@ -8,7 +8,7 @@ use crate::state::{set_up, State};
 #[derive(Clone, Debug, PartialEq, Eq)]
 pub struct Machine {
     pub state: State,
-    pub lent: Memory,
+    pub supplied: Memory,
 }
 
 impl Machine {
@@ -19,10 +19,10 @@ impl Machine {
     }
 
     /// A machine on lent words of any contents.
-    pub fn over(heap: u64, immortal: u64, lent: Memory) -> Machine {
-        let (answer, state) = set_up(heap, immortal, &lent);
+    pub fn over(heap: u64, immortal: u64, supplied: Memory) -> Machine {
+        let (answer, state) = set_up(heap, immortal, &supplied);
         assert!(answer.is_accepted(), "set-up refused by {}", answer.status);
-        Machine { state, lent }
+        Machine { state, supplied }
     }
 
     /// "runs with h = i = 1,024, S = 4,096"
@@ -31,10 +31,10 @@ impl Machine {
     }
 
     pub fn run(&mut self, call: Call) -> Answer {
-        self.state.run(&mut self.lent, call)
+        self.state.run(&mut self.supplied, call)
     }
 
     pub fn is_live(&self, word: u64) -> bool {
-        self.state.is_live(&self.lent, word)
+        self.state.is_live(&self.supplied, word)
     }
 }

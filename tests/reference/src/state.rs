@@ -72,8 +72,8 @@ pub fn is_scope(area: u64) -> bool {
 }
 
 /// "Set-up names heap size h and immortal size i." It "writes no word".
-pub fn set_up(heap: u64, immortal: u64, lent: &Memory) -> (Answer, State) {
-    let lengths = lent.lengths();
+pub fn set_up(heap: u64, immortal: u64, supplied: &Memory) -> (Answer, State) {
+    let lengths = supplied.lengths();
     if fits(heap, immortal, lengths) {
         let state = State::new(heap, immortal, lengths);
         return (Answer::accepted(0), state);
@@ -151,7 +151,7 @@ impl State {
     }
 
     /// "A handle is live if ...", its five conditions in their order.
-    pub fn resolve(&self, lent: &Memory, word: u64) -> Option<Object> {
+    pub fn resolve(&self, supplied: &Memory, word: u64) -> Option<Object> {
         let handle = Handle::unpack(word);
         let area = self.area(handle.area);
         if is_scope(handle.area) && !self.is_open(handle.area) {
@@ -161,10 +161,10 @@ impl State {
             return None;
         }
         let first = area.first + handle.offset;
-        if !lent.starts_at(first) {
+        if !supplied.starts_at(first) {
             return None;
         }
-        let header = Header::unpack(lent.word(first));
+        let header = Header::unpack(supplied.word(first));
         let ends_within = handle.offset + header.words() <= area.used;
         ends_within.then_some(Object {
             area: handle.area,
@@ -173,7 +173,7 @@ impl State {
         })
     }
 
-    pub fn is_live(&self, lent: &Memory, word: u64) -> bool {
-        self.resolve(lent, word).is_some()
+    pub fn is_live(&self, supplied: &Memory, word: u64) -> bool {
+        self.resolve(supplied, word).is_some()
     }
 }

@@ -1,10 +1,10 @@
 //! Runs a list of calls with every claim of the third demand tried after each of them.
 
 use crate::answer::{Answer, Refusal};
-use crate::book::Book;
 use crate::calls::{Call, Op};
 use crate::claims::{self, Claim};
 use crate::frame;
+use crate::history::History;
 use crate::machine::Machine;
 use crate::memory::{Lengths, Memory};
 use crate::random::Random;
@@ -19,7 +19,7 @@ pub const FRAME_SIZES: Sizes = (1_024, 1_024, 4_096);
 pub struct Trial {
     pub machine: Machine,
     pub zeroed: Machine,
-    pub book: Book,
+    pub history: History,
     random: Random,
 }
 
@@ -28,11 +28,11 @@ impl Trial {
         let mut random = Random::new(!seed);
         let (heap, immortal, scratch) = sizes;
         let lengths = Lengths::with_map(heap + immortal, scratch);
-        let lent = any_contents(&mut random, lengths);
+        let supplied = any_contents(&mut random, lengths);
         Trial {
-            machine: Machine::over(heap, immortal, lent),
+            machine: Machine::over(heap, immortal, supplied),
             zeroed: Machine::zeroed(heap, immortal, scratch),
-            book: Book::new(),
+            history: History::new(),
             random,
         }
     }
@@ -41,13 +41,13 @@ impl Trial {
     pub fn call(&mut self, call: Call) -> Claim {
         let before = self.machine.clone();
         let answer = self.machine.run(call);
-        self.book.step(call, answer);
+        self.history.step(call, answer);
         self.same_on_zeroed_words(call, answer)?;
         self.answer_is_allowed(call, answer)?;
         self.changes_are_allowed(&before, call, answer)?;
-        claims::hold(&self.machine, &self.book)?;
+        claims::hold(&self.machine, &self.history)?;
         if self.machine != before {
-            claims::neighbours_are_exact(&self.machine, &self.book, &mut self.random)?;
+            claims::neighbours_are_exact(&self.machine, &self.history, &mut self.random)?;
         }
         self.beside(call)
     }
@@ -83,7 +83,7 @@ impl Trial {
             _ => (false, true),
         };
         let accepted = answer.is_accepted();
-        if !(accepted && writes) && self.machine.lent != before.lent {
+        if !(accepted && writes) && self.machine.supplied != before.supplied {
             return Err("a lent word changed".into());
         }
         if !(accepted && moves) && self.machine.state != before.state {
@@ -98,7 +98,7 @@ impl Trial {
         self.refused_by_lengths(call)?;
         let word = self.any_handle();
         let thread = self.random.below(18);
-        claims::shown_part_is_exact(&self.machine, &self.book, thread, word)?;
+        claims::view_is_exact(&self.machine, &self.history, thread, word)?;
         if self.machine != before {
             return Err("a call beside the list changed something".into());
         }
@@ -107,26 +107,26 @@ impl Trial {
 
     /// Refusal 1, with one buffer a word shorter or longer.
     fn refused_by_lengths(&mut self, call: Call) -> Claim {
-        let mut lent = self.machine.lent.clone();
+        let mut supplied = self.machine.supplied.clone();
         let buffer = match self.random.below(3) {
-            0 => &mut lent.permanent,
-            1 => &mut lent.scratch,
-            _ => &mut lent.start_map,
+            0 => &mut supplied.permanent,
+            1 => &mut supplied.scratch,
+            _ => &mut supplied.start_map,
         };
         if self.random.percent(50) || buffer.pop().is_none() {
             buffer.push(self.random.word());
         }
-        let kept = lent.clone();
-        let answer = self.machine.state.run(&mut lent, call);
-        if answer != Answer::refused(Refusal::Lengths) || lent != kept {
-            return Err(format!("{answer:?} with lengths {:?}", lent.lengths()));
+        let kept = supplied.clone();
+        let answer = self.machine.state.run(&mut supplied, call);
+        if answer != Answer::refused(Refusal::Lengths) || supplied != kept {
+            return Err(format!("{answer:?} with lengths {:?}", supplied.lengths()));
         }
         Ok(())
     }
 
     /// A handle given so far, live or not, or a number one bit beside it.
     fn any_handle(&mut self) -> u64 {
-        let given: Vec<u64> = self.book.objects.iter().map(|o| o.handle).collect();
+        let given: Vec<u64> = self.history.objects.iter().map(|o| o.handle).collect();
         let word = self.random.one_of(&given).unwrap_or(0);
         if self.random.percent(30) {
             return word ^ (1 << self.random.below(64));
@@ -137,14 +137,14 @@ impl Trial {
 
 /// Words of any contents: small ones that look like headers among random ones.
 fn any_contents(random: &mut Random, lengths: Lengths) -> Memory {
-    let mut lent = Memory::zeroed(lengths);
-    for word in lent.permanent.iter_mut().chain(&mut lent.scratch) {
+    let mut supplied = Memory::zeroed(lengths);
+    for word in supplied.permanent.iter_mut().chain(&mut supplied.scratch) {
         *word = random.word() >> random.below(64);
     }
-    for word in &mut lent.start_map {
+    for word in &mut supplied.start_map {
         *word = random.word() | random.word();
     }
-    lent
+    supplied
 }
 
 /// Runs every frame of a list; panics with the seed and the call where a claim fails.
@@ -159,7 +159,7 @@ pub fn run_list(seed: u64, sizes: Sizes, list: &[u8]) {
             panic!("seed {seed}, sizes {sizes:?}, line {line_number}, {call:x?}: {words}");
         }
     }
-    let last = claims::all_offsets_are_exact(&trial.machine, &trial.book);
+    let last = claims::all_offsets_are_exact(&trial.machine, &trial.history);
     if let Err(words) = last {
         panic!("seed {seed}, sizes {sizes:?}, after the list: {words}");
     }

@@ -10,11 +10,11 @@ use reference::memory::{Lengths, Memory};
 /// Heap 10, immortal 20, scratch 70, every lent bit 1; a real-time thread is started.
 fn all_ones() -> Bench {
     let lengths = Lengths::with_map(30, 70);
-    let mut lent = Memory::zeroed(lengths);
-    lent.permanent.fill(u64::MAX);
-    lent.scratch.fill(u64::MAX);
-    lent.start_map.fill(u64::MAX);
-    let machine = Machine::over(10, 20, lent);
+    let mut supplied = Memory::zeroed(lengths);
+    supplied.permanent.fill(u64::MAX);
+    supplied.scratch.fill(u64::MAX);
+    supplied.start_map.fill(u64::MAX);
+    let machine = Machine::over(10, 20, supplied);
     let mut bench = Bench { machine };
     assert_eq!(bench.start(0, REAL_TIME), (0, 0));
     bench
@@ -37,10 +37,13 @@ fn allocation_writes_its_own_words_alone() {
     assert_eq!(bench.object(0, 1, 2), handle(0, 1, 1));
     let mut permanent = vec![u64::MAX; 30];
     permanent[10..14].copy_from_slice(&[Header { slots: 1, data: 2 }.pack(), 0, 0, 0]);
-    assert_eq!(bench.machine.lent.permanent, permanent);
-    assert_eq!(bench.machine.lent.scratch, vec![u64::MAX; 70]);
+    assert_eq!(bench.machine.supplied.permanent, permanent);
+    assert_eq!(bench.machine.supplied.scratch, vec![u64::MAX; 70]);
     let cleared = (1 << 11) | (1 << 12) | (1 << 13);
-    assert_eq!(bench.machine.lent.start_map, [u64::MAX ^ cleared, u64::MAX]);
+    assert_eq!(
+        bench.machine.supplied.start_map,
+        [u64::MAX ^ cleared, u64::MAX]
+    );
 }
 
 /// Scratch bits follow the permanent ones: scratch word 33 has bit 63, 34 bit 0 of the next word.
@@ -54,8 +57,8 @@ fn scope_bits_count_behind_the_permanent_words() {
     assert_eq!(bench.object(0, 1, 0), handle(2, 2, 1));
     let first = u64::MAX ^ 1 << 63;
     let second = u64::MAX ^ 1 << 1;
-    assert_eq!(bench.machine.lent.start_map, [first, second]);
-    assert_eq!(bench.machine.lent.scratch[32..36], [16_384, 0, 1, 0]);
+    assert_eq!(bench.machine.supplied.start_map, [first, second]);
+    assert_eq!(bench.machine.supplied.scratch[32..36], [16_384, 0, 1, 0]);
 }
 
 /// "its stored words are not touched"
@@ -66,10 +69,10 @@ fn exit_touches_no_word() {
     bench.enter(0, 2);
     let object = bench.object(0, 0, 1);
     bench.write(0, object, 0, 77);
-    let before = bench.machine.lent.clone();
+    let before = bench.machine.supplied.clone();
     bench.exit(0);
     bench.enter(0, 2);
-    assert_eq!(bench.machine.lent, before);
+    assert_eq!(bench.machine.supplied, before);
     // The old words come back as zeros.
     let again = bench.object(0, 1, 0);
     assert_eq!(bench.load(0, again, 0), (0, 0));
@@ -111,11 +114,11 @@ fn each_condition_of_liveness_counts() {
     assert!(!emptied.is_live(object));
 
     let mut unmarked = bench.machine.clone();
-    unmarked.lent.start_map[0] &= !(1 << 30);
+    unmarked.supplied.start_map[0] &= !(1 << 30);
     assert!(!unmarked.is_live(object));
 
     let mut longer = bench.machine.clone();
-    longer.lent.scratch[0] += 1;
+    longer.supplied.scratch[0] += 1;
     assert!(!longer.is_live(object));
 }
 
@@ -126,13 +129,13 @@ fn forged_by_the_host() {
     bench.enter(0, 0);
     bench.object(0, 0, 5);
     // A header with stray high bits, and its start bit, inside the object.
-    bench.machine.lent.permanent[2] = Header { slots: 1, data: 2 }.pack() | 1 << 63;
-    bench.machine.lent.start_map[0] |= 1 << 2;
+    bench.machine.supplied.permanent[2] = Header { slots: 1, data: 2 }.pack() | 1 << 63;
+    bench.machine.supplied.start_map[0] |= 1 << 2;
     let forged = handle(2, 0, 1);
     assert_eq!(bench.write(0, forged, 1, 99), (0, 0));
-    assert_eq!(bench.machine.lent.permanent[5], 99);
+    assert_eq!(bench.machine.supplied.permanent[5], 99);
     // It ends with the used words; one word more is too many.
-    bench.machine.lent.permanent[2] = Header { slots: 1, data: 3 }.pack();
+    bench.machine.supplied.permanent[2] = Header { slots: 1, data: 3 }.pack();
     assert_eq!(bench.write(0, forged, 1, 98), (13, 0));
 }
 
@@ -153,7 +156,7 @@ fn contents_alone_make_no_object() {
 
 /// "exactly its d words"
 #[test]
-fn shown_part_is_the_data() {
+fn view_is_the_data() {
     let mut bench = all_ones();
     bench.make(0, 2, 8);
     let heap = bench.object(0, 1, 2);
@@ -166,12 +169,15 @@ fn shown_part_is_the_data() {
     assert_eq!(bench.shown(0, heap), [0, 6]);
     assert_eq!(bench.shown(0, scope), [7, 0, 9]);
     assert_eq!(bench.shown(0, empty), [0; 0]);
-    assert_eq!(bench.shown_status(0, empty), (0, 0));
+    assert_eq!(bench.view_answer(0, empty), (0, 0));
     assert_eq!(bench.shown(0, 1), [0; 0]);
     assert_eq!(bench.shown(1, heap), [0; 0]);
-    let lent = &bench.machine.lent;
-    assert!(std::ptr::eq(bench.shown(0, scope), &lent.scratch[3..6]));
-    assert!(std::ptr::eq(bench.shown(0, heap), &lent.permanent[2..4]));
+    let supplied = &bench.machine.supplied;
+    assert!(std::ptr::eq(bench.shown(0, scope), &supplied.scratch[3..6]));
+    assert!(std::ptr::eq(
+        bench.shown(0, heap),
+        &supplied.permanent[2..4]
+    ));
 }
 
 /// "A refusal ... alters no state and no lent word", tried on a full area.

@@ -18,9 +18,9 @@ fn number_1_scratch_one_word_short() {
     let mut bench = in_scope();
     let object = bench.object(0, 1, 1);
     let kept = bench.machine.state.clone();
-    let mut lent = bench.machine.lent.clone();
-    lent.scratch.pop();
-    let short = lent.clone();
+    let mut supplied = bench.machine.supplied.clone();
+    supplied.scratch.pop();
+    let short = supplied.clone();
     let ops = [
         Op::Start { kind: 0 },
         Op::End,
@@ -44,15 +44,15 @@ fn number_1_scratch_one_word_short() {
     for op in ops {
         // Thread 99 would give 2.
         for thread in [0, 99] {
-            let answer = bench.machine.state.run(&mut lent, Call { thread, op });
+            let answer = bench.machine.state.run(&mut supplied, Call { thread, op });
             assert_eq!((answer.status, answer.value), (1, 0), "{op:?}");
         }
     }
     let state = &bench.machine.state;
-    assert_eq!(state.shown_part_status(&lent, 99, object).status, 1);
-    assert_eq!(state.shown_part(&lent, 0, object).len(), 0);
+    assert_eq!(state.view_status_of(&supplied, 99, object).status, 1);
+    assert_eq!(state.view_of(&supplied, 0, object).len(), 0);
     assert_eq!(*state, kept);
-    assert_eq!(lent, short);
+    assert_eq!(supplied, short);
 }
 
 #[test]
@@ -61,15 +61,15 @@ fn number_1_each_length_counts() {
     let mut state = bench.machine.state.clone();
     for buffer in 0..3 {
         for longer in [false, true] {
-            let mut lent = bench.machine.lent.clone();
+            let mut supplied = bench.machine.supplied.clone();
             let words = match buffer {
-                0 => &mut lent.permanent,
-                1 => &mut lent.scratch,
-                _ => &mut lent.start_map,
+                0 => &mut supplied.permanent,
+                1 => &mut supplied.scratch,
+                _ => &mut supplied.start_map,
             };
             words.resize(words.len() + 2 * usize::from(longer) - 1, 0);
             let op = Op::Exit;
-            let answer = state.run(&mut lent, Call { thread: 0, op });
+            let answer = state.run(&mut supplied, Call { thread: 0, op });
             assert_eq!(answer.status, 1, "buffer {buffer}, longer {longer}");
         }
     }
@@ -98,7 +98,7 @@ fn number_2_comes_before_the_rest() {
     assert_eq!(bench.load(3, 0, 9), (2, 0));
     assert_eq!(bench.write(3, 0, 9, 1), (2, 0));
     assert_eq!(bench.read(3, 0, 9), (2, 0));
-    assert_eq!(bench.shown_status(3, 0), (2, 0));
+    assert_eq!(bench.view_answer(3, 0), (2, 0));
 }
 
 #[test]
@@ -150,7 +150,7 @@ fn number_5_rights_of_use_and_reference() {
             assert_eq!(bench.write(thread, object, 0, 7).0, status);
             assert_eq!(bench.load(thread, object, 0).0, status);
             assert_eq!(bench.store(thread, object, 0, 0).0, status);
-            assert_eq!(bench.shown_status(thread, object), (status, 0));
+            assert_eq!(bench.view_answer(thread, object), (status, 0));
             // R comes before the assignment rule's 16.
             let reference = bench.store(thread, immortal, 0, object).0;
             let forbidden = if object == scope { 16 } else { 0 };
@@ -286,7 +286,7 @@ fn number_13_object() {
     assert_eq!(bench.store(0, object + 1, 9, 1), (13, 0));
     assert_eq!(bench.write(0, object + 1, 9, 1), (13, 0));
     assert_eq!(bench.load(0, object ^ 1 << 20, 9), (13, 0));
-    assert_eq!(bench.shown_status(0, object + 1), (13, 0));
+    assert_eq!(bench.view_answer(0, object + 1), (13, 0));
     assert_eq!(bench.read(0, object, 0), (0, 0));
     bench.exit(0);
     assert_eq!(bench.read(0, object, 0), (13, 0));
@@ -339,7 +339,7 @@ fn number_15_target() {
 fn number_15_loaded_word() {
     let mut bench = in_scope();
     let object = bench.object(0, 1, 0);
-    bench.machine.lent.scratch[1] = 1;
+    bench.machine.supplied.scratch[1] = 1;
     assert_eq!(bench.load(0, object, 0), (15, 0));
 }
 

@@ -4,10 +4,10 @@ mod common;
 
 use common::REAL_TIME;
 use reference::answer::Answer;
-use reference::book::Book;
 use reference::calls::{Call, Op};
 use reference::claims;
 use reference::generator;
+use reference::history::History;
 use reference::machine::Machine;
 use reference::random::Random;
 use reference::rights::Kind;
@@ -32,18 +32,18 @@ fn lists_depend_on_the_seed_alone() {
     assert_eq!(random.word(), 0x6e78_9e6a_a1b9_65f4);
 }
 
-fn run(machine: &mut Machine, book: &mut Book, thread: u64, op: Op) -> u64 {
+fn run(machine: &mut Machine, history: &mut History, thread: u64, op: Op) -> u64 {
     let call = Call { thread, op };
     let answer = machine.run(call);
     assert!(answer.is_accepted(), "{call:?} {answer:?}");
-    book.step(call, answer);
+    history.step(call, answer);
     answer.value
 }
 
 /// Thread 0 in scopes 2 and 3, thread 1 in 2; an object in each that refers to the one of 2.
-fn nested() -> (Machine, Book, u64, u64) {
-    let (mut machine, mut book) = (Machine::for_frames(), Book::new());
-    let mut call = |thread, op| run(&mut machine, &mut book, thread, op);
+fn nested() -> (Machine, History, u64, u64) {
+    let (mut machine, mut history) = (Machine::for_frames(), History::new());
+    let mut call = |thread, op| run(&mut machine, &mut history, thread, op);
     call(0, Op::Start { kind: REAL_TIME });
     call(1, Op::Start { kind: REAL_TIME });
     call(0, Op::Make { area: 2, size: 20 });
@@ -62,21 +62,21 @@ fn nested() -> (Machine, Book, u64, u64) {
         };
         call(1, op);
     }
-    assert_eq!(all_claims(&machine, &book), Ok(()));
-    (machine, book, outer, inner)
+    assert_eq!(all_claims(&machine, &history), Ok(()));
+    (machine, history, outer, inner)
 }
 
-fn all_claims(machine: &Machine, book: &Book) -> claims::Claim {
-    claims::hold(machine, book)?;
-    claims::neighbours_are_exact(machine, book, &mut Random::new(1))?;
-    claims::all_offsets_are_exact(machine, book)
+fn all_claims(machine: &Machine, history: &History) -> claims::Claim {
+    claims::hold(machine, history)?;
+    claims::neighbours_are_exact(machine, history, &mut Random::new(1))?;
+    claims::all_offsets_are_exact(machine, history)
 }
 
 /// The words of the claim that fails after a change of the machine.
-fn words_after(change: impl FnOnce(&mut Machine, &mut Book, u64, u64)) -> String {
-    let (mut machine, mut book, outer, inner) = nested();
-    change(&mut machine, &mut book, outer, inner);
-    let claim = all_claims(&machine, &book);
+fn words_after(change: impl FnOnce(&mut Machine, &mut History, u64, u64)) -> String {
+    let (mut machine, mut history, outer, inner) = nested();
+    change(&mut machine, &mut history, outer, inner);
+    let claim = all_claims(&machine, &history);
     claim.expect_err("every claim holds")
 }
 
@@ -111,28 +111,28 @@ fn sees_another_parent() {
 /// The first version: each thread nests scopes in its own order.
 #[test]
 fn sees_a_thread_outside_an_ancestor() {
-    let words = words_after(|machine, book, _, _| {
+    let words = words_after(|machine, history, _, _| {
         machine.state.threads[1].stack.push(3);
         machine.state.threads[1].stack.remove(0);
-        book.rows[1] = Some(vec![3]);
+        history.rows[1] = Some(vec![3]);
     });
     assert!(words.contains("lacks an ancestor of 3"), "{words}");
 }
 
 #[test]
 fn sees_ancestors_out_of_order() {
-    let words = words_after(|machine, book, _, _| {
+    let words = words_after(|machine, history, _, _| {
         machine.state.threads[1].stack = vec![3, 2];
-        book.rows[1] = Some(vec![3, 2]);
+        history.rows[1] = Some(vec![3, 2]);
     });
     assert!(words.contains("lacks an ancestor of 3"), "{words}");
 }
 
 #[test]
 fn sees_scopes_on_a_row_that_are_no_ancestors() {
-    let words = words_after(|machine, book, _, _| {
+    let words = words_after(|machine, history, _, _| {
         machine.state.areas[3].parent = None;
-        book.parents.insert(3, None);
+        history.parents.insert(3, None);
     });
     assert!(words.contains("walk and scan differ"), "{words}");
 }
@@ -140,9 +140,9 @@ fn sees_scopes_on_a_row_that_are_no_ancestors() {
 /// A reference from an outer object to an inner one, whose scope then empties.
 #[test]
 fn sees_a_dangling_reference() {
-    let words = words_after(|machine, book, _, inner| {
-        machine.lent.scratch[1] = inner;
-        run(machine, book, 0, Op::Exit);
+    let words = words_after(|machine, history, _, inner| {
+        machine.supplied.scratch[1] = inner;
+        run(machine, history, 0, Op::Exit);
     });
     assert!(words.contains("slot 0 of"), "{words}");
 }
@@ -150,46 +150,46 @@ fn sees_a_dangling_reference() {
 /// A start bit at the data word of the object in scope 2, which reads as an empty header.
 #[test]
 fn sees_a_number_that_was_never_given() {
-    let words = words_after(|machine, _, _, _| machine.lent.start_map[32] |= 4);
+    let words = words_after(|machine, _, _, _| machine.supplied.start_map[32] |= 4);
     assert!(words.contains("is live: true"), "{words}");
 }
 
 #[test]
 fn sees_a_handle_that_is_refused() {
-    let words = words_after(|machine, _, _, _| machine.lent.start_map[32] &= !1);
+    let words = words_after(|machine, _, _, _| machine.supplied.start_map[32] &= !1);
     assert!(words.contains("is live: false"), "{words}");
 }
 
 /// "Resetting the turn on reuse."
 #[test]
 fn sees_a_dead_handle_live_again() {
-    let words = words_after(|machine, book, _, _| {
-        run(machine, book, 0, Op::Exit);
+    let words = words_after(|machine, history, _, _| {
+        run(machine, history, 0, Op::Exit);
         machine.state.areas[3].generation = 0;
-        run(machine, book, 0, Op::Enter { area: 3 });
-        run(machine, book, 0, Op::Allocate { slots: 1, data: 1 });
+        run(machine, history, 0, Op::Enter { area: 3 });
+        run(machine, history, 0, Op::Allocate { slots: 1, data: 1 });
     });
     assert!(words.contains("given twice"), "{words}");
 }
 
 #[test]
 fn sees_a_dead_handle_accepted() {
-    let words = words_after(|machine, book, _, _| {
+    let words = words_after(|machine, history, _, _| {
         let kept = machine.state.areas[3].clone();
-        run(machine, book, 0, Op::Exit);
-        run(machine, book, 0, Op::Enter { area: 3 });
+        run(machine, history, 0, Op::Exit);
+        run(machine, history, 0, Op::Enter { area: 3 });
         machine.state.areas[3] = kept;
     });
     assert!(words.contains("is live: true"), "{words}");
 }
 
 #[test]
-fn sees_a_shown_part_of_another_length() {
-    let (machine, mut book, outer, _) = nested();
-    let shown = claims::shown_part_is_exact(&machine, &book, 0, outer);
+fn sees_a_view_of_another_length() {
+    let (machine, mut history, outer, _) = nested();
+    let shown = claims::view_is_exact(&machine, &history, 0, outer);
     assert_eq!(shown, Ok(()));
-    book.objects[0].data = 2;
-    let shown = claims::shown_part_is_exact(&machine, &book, 0, outer);
+    history.objects[0].data = 2;
+    let shown = claims::view_is_exact(&machine, &history, 0, outer);
     assert!(shown.is_err());
 }
 
@@ -216,8 +216,8 @@ fn trial_sees_a_15_of_op_08() {
     };
     call(Op::Start { kind: REAL_TIME });
     call(Op::Allocate { slots: 1, data: 0 });
-    trial.machine.lent.permanent[1] = 1;
-    trial.zeroed.lent.permanent[1] = 1;
+    trial.machine.supplied.permanent[1] = 1;
+    trial.zeroed.supplied.permanent[1] = 1;
     let (object, slot) = (1 << 20, 0);
     let op = Op::Load { object, slot };
     let words = trial.call(Call { thread: 0, op });
@@ -226,29 +226,30 @@ fn trial_sees_a_15_of_op_08() {
 
 /// The book is fed arguments and answers alone.
 #[test]
-fn book_keeps_rows_parents_and_objects() {
-    let (mut machine, mut book, outer, inner) = nested();
-    assert_eq!(book.rows[0], Some(vec![2, 3]));
-    assert_eq!(book.rows[1], Some(vec![2]));
-    assert_eq!(book.rows[2], None);
-    assert_eq!(book.parents[&2], None);
-    assert_eq!(book.parents[&3], Some(2));
-    let handles = |book: &Book| -> Vec<u64> { book.live_objects().map(|o| o.handle).collect() };
-    assert_eq!(handles(&book), [outer, inner]);
+fn history_keeps_rows_parents_and_objects() {
+    let (mut machine, mut history, outer, inner) = nested();
+    assert_eq!(history.rows[0], Some(vec![2, 3]));
+    assert_eq!(history.rows[1], Some(vec![2]));
+    assert_eq!(history.rows[2], None);
+    assert_eq!(history.parents[&2], None);
+    assert_eq!(history.parents[&3], Some(2));
+    let handles =
+        |history: &History| -> Vec<u64> { history.live_objects().map(|o| o.handle).collect() };
+    assert_eq!(handles(&history), [outer, inner]);
     let refused = Answer {
         status: 2,
         value: 0,
     };
     let op = Op::Exit;
-    book.step(Call { thread: 0, op }, refused);
-    assert_eq!(book.rows[0], Some(vec![2, 3]));
-    run(&mut machine, &mut book, 0, Op::Exit);
-    assert_eq!(handles(&book), [outer]);
-    assert!(!book.parents.contains_key(&3));
-    run(&mut machine, &mut book, 0, Op::Exit);
-    assert_eq!(handles(&book), [outer]);
-    run(&mut machine, &mut book, 1, Op::Exit);
-    assert_eq!(handles(&book), [0; 0]);
-    run(&mut machine, &mut book, 1, Op::End);
-    assert_eq!(book.rows[1], None);
+    history.step(Call { thread: 0, op }, refused);
+    assert_eq!(history.rows[0], Some(vec![2, 3]));
+    run(&mut machine, &mut history, 0, Op::Exit);
+    assert_eq!(handles(&history), [outer]);
+    assert!(!history.parents.contains_key(&3));
+    run(&mut machine, &mut history, 0, Op::Exit);
+    assert_eq!(handles(&history), [outer]);
+    run(&mut machine, &mut history, 1, Op::Exit);
+    assert_eq!(handles(&history), [0; 0]);
+    run(&mut machine, &mut history, 1, Op::End);
+    assert_eq!(history.rows[1], None);
 }

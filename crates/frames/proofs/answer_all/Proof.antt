@@ -9,22 +9,22 @@ use Rattle.frames.proofs.answer_all.Statement.{statement}
 use Rattle.frames.proofs.answer_all.Tie as tie
 
 abbrev Inv-loop : tie.InvT-loop
-Inv-loop words₀ bytes₀ permanent₀ scratch₀ map₀ input₀ output₀ line₀ len₀ turns₀ words bytes permanent scratch map input output line len turns =
+Inv-loop words₀ bytes₀ permanent₀ scratch₀ map₀ input₀ output₀ line₀ len₀ reads₀ words bytes permanent scratch map input output line len reads =
     Ready words bytes × (length line ≡ 40) × (19 * length input₀ ≤ length output₀) × (19 ≤ length output₀)
     × (length permanent ≡ length permanent₀) × (length scratch ≡ length scratch₀) × (length map ≡ length map₀)
     × (length input ≡ length input₀) × (length output ≡ length output₀)
 
 abbrev μ-loop : tie.MeasureT-loop
-μ-loop words₀ bytes₀ permanent₀ scratch₀ map₀ input₀ output₀ line₀ len₀ turns₀ words bytes permanent scratch map input output line len turns =
-    turns
+μ-loop words₀ bytes₀ permanent₀ scratch₀ map₀ input₀ output₀ line₀ len₀ reads₀ words bytes permanent scratch map input output line len reads =
+    reads
 
 loop-holds : tie.Need-loop-holds Inv-loop μ-loop
 loop-holds c =
     let p = c .before .before .before .before .before .pre in
     (p .0, refl, p .1, p .2, refl, refl, refl, refl, refl)
 
-sub-turns : tie.Need-sub-turns Inv-loop μ-loop
-sub-turns c = search needs
+sub-reads : tie.Need-sub-reads Inv-loop μ-loop
+sub-reads c = search needs
 
 take-chunk-requires : tie.Need-take-chunk-requires Inv-loop μ-loop
 take-chunk-requires c κs =
@@ -97,7 +97,7 @@ answer-all-spec =
     Inv-loop
     μ-loop
     loop-holds
-    sub-turns
+    sub-reads
     take-chunk-requires
     loop-less
     loop-again

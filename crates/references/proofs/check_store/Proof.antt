@@ -58,7 +58,7 @@ enum-known-o : tie.Need-enum-known-o
 enum-known-o c = search needs
 
 check-reference-requires : tie.Need-check-reference-requires
-check-reference-requires c κs = (start (past c) .pre, slot-is c .used .called .thread, slot-is c .used .called .lent)
+check-reference-requires c κs = (start (past c) .pre, slot-is c .used .called .thread, slot-is c .used .called .supplied)
 
 area-requires : tie.Need-area-requires
 area-requires c κs = search needs

@@ -74,7 +74,7 @@ word-at-requires c κs = room (c .before) .inside
 check-reference-requires : tie.Need-check-reference-requires
 check-reference-requires c κs =
     let k = slot-is (c .before .before) in
-    (start (past (c .before .before)) .pre, k .used .called .thread, k .used .called .lent)
+    (start (past (c .before .before)) .pre, k .used .called .thread, k .used .called .supplied)
 
 returns : tie.Need-returns
 returns c =

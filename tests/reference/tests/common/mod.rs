@@ -107,12 +107,12 @@ impl Bench {
 
     pub fn shown(&self, thread: u64, object: u64) -> &[u64] {
         let machine = &self.machine;
-        machine.state.shown_part(&machine.lent, thread, object)
+        machine.state.view_of(&machine.supplied, thread, object)
     }
 
-    pub fn shown_status(&self, thread: u64, object: u64) -> Pair {
+    pub fn view_answer(&self, thread: u64, object: u64) -> Pair {
         let machine = &self.machine;
         let state = &machine.state;
-        pair(state.shown_part_status(&machine.lent, thread, object))
+        pair(state.view_status_of(&machine.supplied, thread, object))
     }
 }

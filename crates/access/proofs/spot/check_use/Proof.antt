@@ -44,7 +44,7 @@ returns : tie.Need-returns
 returns c = refused-spot _ (c .if1 .taken) (use-not-called _ _ _ _ (c .before .check-caller .ensures) (c .if1 .taken))
 
 lookup-requires : tie.Need-lookup-requires
-lookup-requires c κs = (start c .pre, called c .lent)
+lookup-requires c κs = (start c .pre, called c .supplied)
 
 enum-known-o : tie.Need-enum-known-o
 enum-known-o c = search needs

@@ -80,7 +80,7 @@ returns c =
     told-refused _ _ (calls.read _ _ _) e (c .if1 .taken)
 
 lookup-requires : tie.Need-lookup-requires
-lookup-requires c κs = (start c .pre, called c .lent)
+lookup-requires c κs = (start c .pre, called c .supplied)
 
 enum-known-x : tie.Need-enum-known-x
 enum-known-x c = search needs

@@ -82,7 +82,7 @@ returns c =
 lookup-requires : tie.Need-lookup-requires
 lookup-requires c κs =
     let d = c .before .before in
-    (start d .pre, called d .lent)
+    (start d .pre, called d .supplied)
 
 enum-known-o : tie.Need-enum-known-o
 enum-known-o c = search needs

@@ -5,7 +5,7 @@ use borrow.Author.Needs.{needs}
 use Rattle.tables.specs.Laws.{kind-read}
 use Rattle.tables.specs.Decode.{stateOf}
 use Rattle.tables.specs.Contract.{memoryOf}
-use Rattle.threads.specs.Caller.{not-lent, no-thread, not-started, started, unfit, fit}
+use Rattle.threads.specs.Caller.{not-supplied, no-thread, not-started, started, unfit, fit}
 use Rattle.threads.proofs.caller.check_caller.Statement.{statement}
 use Rattle.threads.proofs.caller.check_caller.Tie as tie
 
@@ -17,7 +17,7 @@ returns c =
     let a = c .before .before .before .before .before .args in
     let s = stateOf (now (a .words)) (now (a .bytes)) in
     let m = memoryOf (now (a .permanent)) (now (a .scratch)) (now (a .map)) in
-    not-lent s m (a .t) 0 (unfit s m (c .before .lengths-fit .ensures) (c .if1 .taken))
+    not-supplied s m (a .t) 0 (unfit s m (c .before .lengths-fit .ensures) (c .if1 .taken))
 
 returns-2 : tie.Need-returns-2
 returns-2 c =

@@ -5,7 +5,7 @@ use borrow.Author.Needs.{needs}
 use Rattle.tables.specs.Laws.{kind-read}
 use Rattle.tables.specs.Decode.{stateOf}
 use Rattle.tables.specs.Contract.{memoryOf}
-use Rattle.threads.specs.Thread.{start-not-lent, start-no-thread, start-started, start-no-kind, start-other-kind, start-accepted}
+use Rattle.threads.specs.Thread.{start-not-supplied, start-no-thread, start-started, start-no-kind, start-other-kind, start-accepted}
 use Rattle.threads.specs.Caller.{unfit, fit}
 use Rattle.threads.proofs.thread.check_start.Statement.{statement}
 use Rattle.threads.proofs.thread.check_start.Tie as tie
@@ -18,7 +18,7 @@ returns c =
     let a = c .before .before .before .before .before .args in
     let s = stateOf (now (a .words)) (now (a .bytes)) in
     let m = memoryOf (now (a .permanent)) (now (a .scratch)) (now (a .map)) in
-    start-not-lent s m (a .t) (a .kind) (unfit s m (c .before .lengths-fit .ensures) (c .if1 .taken))
+    start-not-supplied s m (a .t) (a .kind) (unfit s m (c .before .lengths-fit .ensures) (c .if1 .taken))
 
 returns-2 : tie.Need-returns-2
 returns-2 c =

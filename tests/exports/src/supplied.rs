@@ -35,15 +35,15 @@ impl Guarded {
 
 /// The three buffers.
 #[derive(Clone)]
-pub struct Lent {
+pub struct Supplied {
     pub permanent: Guarded,
     pub scratch: Guarded,
     pub map: Guarded,
 }
 
-impl Lent {
-    pub fn new(memory: &Memory) -> Lent {
-        Lent {
+impl Supplied {
+    pub fn new(memory: &Memory) -> Supplied {
+        Supplied {
             permanent: Guarded::new(&memory.permanent),
             scratch: Guarded::new(&memory.scratch),
             map: Guarded::new(&memory.start_map),

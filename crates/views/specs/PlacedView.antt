@@ -14,27 +14,27 @@ use Rattle.views.specs.declared.Part.{Part}
 
 -- of two things, one for each store, that of the store that is shown a part of: the store of the object's area, the permanent store where
 -- the call is refused
-unfoldable pub shownIn : {A : Type 0} → State → Memory → ℕ → ℕ → A → A → A
-shownIn s m t p permanent scratch = pick (eqb (viewStatus s m t p) 0) (pick (isScope (areaOf p)) scratch permanent) permanent
+unfoldable pub viewStore : {A : Type 0} → State → Memory → ℕ → ℕ → A → A → A
+viewStore s m t p permanent scratch = pick (eqb (viewStatus s m t p) 0) (pick (isScope (areaOf p)) scratch permanent) permanent
 
 -- which of its words is the first that is shown
-unfoldable pub shownFrom : State → Memory → ℕ → ℕ → ℕ
-shownFrom s m t p = pick (eqb (viewStatus s m t p) 0) (placeAfter s p (dataIndex s m p 0)) 0
+unfoldable pub viewFrom : State → Memory → ℕ → ℕ → ℕ
+viewFrom s m t p = pick (eqb (viewStatus s m t p) 0) (placeAfter s p (dataIndex s m p 0)) 0
 
 -- how many are shown
-unfoldable pub shownLength : State → Memory → ℕ → ℕ → ℕ
-shownLength s m t p = pick (eqb (viewStatus s m t p) 0) (dataOf (headerAt s m p)) 0
+unfoldable pub viewLength : State → Memory → ℕ → ℕ → ℕ
+viewLength s m t p = pick (eqb (viewStatus s m t p) 0) (dataOf (headerAt s m p)) 0
 
 -- the part by numbers: store 0 is the permanent one, 1 the scratch
 unfoldable pub partOf : State → Memory → ℕ → ℕ → Part
 partOf s m t p = record {
   status = viewStatus s m t p;
-  store = shownIn s m t p 0 1;
-  from = shownFrom s m t p;
-  len = shownLength s m t p;
+  store = viewStore s m t p 0 1;
+  from = viewFrom s m t p;
+  len = viewLength s m t p;
 }
 
 -- a part that begins there, from where the two stores begin: in that store itself, 8 bytes to a word
-pub record Shown (part permanent scratch : ℕ × ℕ) (s : State) (m : Memory) (t p : ℕ) : Type 0 where
-  pub store-is : part .0 ≡ shownIn s m t p permanent scratch .0
-  pub place-is : part .1 ≡ shownFrom s m t p * 8 + shownIn s m t p permanent scratch .1
+pub record PlacedView (part permanent scratch : ℕ × ℕ) (s : State) (m : Memory) (t p : ℕ) : Type 0 where
+  pub store-is : part .0 ≡ viewStore s m t p permanent scratch .0
+  pub place-is : part .1 ≡ viewFrom s m t p * 8 + viewStore s m t p permanent scratch .1

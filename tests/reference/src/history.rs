@@ -21,7 +21,7 @@ pub struct MadeObject {
 }
 
 #[derive(Clone, Debug)]
-pub struct Book {
+pub struct History {
     /// "a row of areas for each started thread"
     pub rows: Vec<Option<Vec<u64>>>,
     /// "a parent for each open scope", none for the primordial scope
@@ -35,10 +35,10 @@ pub struct Book {
     pub calls: u64,
 }
 
-impl Book {
+impl History {
     /// "is empty at set-up"
-    pub fn new() -> Book {
-        Book {
+    pub fn new() -> History {
+        History {
             rows: vec![None; THREADS as usize],
             parents: BTreeMap::new(),
             objects: Vec::new(),
@@ -170,8 +170,8 @@ impl Book {
     }
 }
 
-impl Default for Book {
-    fn default() -> Book {
-        Book::new()
+impl Default for History {
+    fn default() -> History {
+        History::new()
     }
 }

@@ -18,17 +18,17 @@ pub record Object : Type 0 where
 
 -- "a row of areas for each started thread, a parent for each open scope, and the objects made": a row has its top first; a parent is 0 for
 -- none; the live objects stand by area, the newest first; gone has the handles of the objects that are gone
-pub record Book : Type 0 where
+pub record History : Type 0 where
   pub started : ℕ → Bool
   pub rows : List (List ℕ)
   pub parents : ℕ → ℕ
   pub objects : ℕ → List Object
   pub gone : List ℕ
 
-unfoldable pub blank : Book
+unfoldable pub blank : History
 blank = record { started = λ t. false; rows = replicate 16 []; parents = λ a. 0; objects = λ a. []; gone = [] }
 
-abbrev pub rowOf : Book → ℕ → List ℕ
+abbrev pub rowOf : History → ℕ → List ℕ
 rowOf b t = getD (b .rows) t []
 
 -- f with v at q
@@ -56,12 +56,12 @@ abbrev pub isScopeOnNone : ℕ → List (List ℕ) → Bool
 isScopeOnNone q rows = isScope q && eqb (total q rows) 0
 
 -- "01 gives the thread an empty row, 02 takes it away."
-unfoldable pub bookStart : Book → ℕ → Bool → Book
-bookStart b t on = record { started = putAt (b .started) t on; rows = set (b .rows) t []; parents = b .parents; objects = b .objects; gone = b .gone }
+unfoldable pub historyStart : History → ℕ → Bool → History
+historyStart b t on = record { started = putAt (b .started) t on; rows = set (b .rows) t []; parents = b .parents; objects = b .objects; gone = b .gone }
 
 -- "04: where q is a scope on no row, its parent becomes the innermost scope of the thread's row, or none. Then q goes on top of that row."
-unfoldable pub bookEnter : Book → ℕ → ℕ → Book
-bookEnter b t q = record {
+unfoldable pub historyEnter : History → ℕ → ℕ → History
+historyEnter b t q = record {
   started = b .started;
   rows = set (b .rows) t (q ∷ rowOf b t);
   parents = pick (isScopeOnNone q (b .rows)) (putAt (b .parents) q (innermost (rowOf b t))) (b .parents);
@@ -70,8 +70,8 @@ bookEnter b t q = record {
 }
 
 -- "05 takes the top off. If that leaves a scope on no row, it has no parent and its objects are gone."
-unfoldable pub bookExit : Book → ℕ → Book
-bookExit b t =
+unfoldable pub historyExit : History → ℕ → History
+historyExit b t =
     let q : ℕ = current (rowOf b t) in
     let left : List (List ℕ) = set (b .rows) t (below (rowOf b t)) in
     record {
@@ -83,31 +83,31 @@ bookExit b t =
     }
 
 -- "06 makes an object: its handle is the value, it has q slots, its area is the row's top, or the heap if the row is empty."
-unfoldable pub bookAllocate : Book → ℕ → Object → Book
-bookAllocate b t o =
+unfoldable pub historyAllocate : History → ℕ → Object → History
+historyAllocate b t o =
     let a : ℕ = current (rowOf b t) in
     record { started = b .started; rows = b .rows; parents = b .parents; objects = putAt (b .objects) a (o ∷ b .objects a); gone = b .gone }
 
 -- an accepted call with its value; "The rest .. change nothing."
-abbrev pub bookStep : Book → Call → ℕ → Book
-bookStep b (start t p) v = bookStart b t true
-bookStep b (end t) v = bookStart b t false
-bookStep b (make t q r) v = b
-bookStep b (enter t q) v = bookEnter b t q
-bookStep b (exit t) v = bookExit b t
-bookStep b (allocate t q r) v = bookAllocate b t (record { handle = v; slots = q; words = r })
-bookStep b (store t p q r) v = b
-bookStep b (load t p q) v = b
-bookStep b (write t p q r) v = b
-bookStep b (read t p q) v = b
-bookStep b (view t p) v = b
-bookStep b (viewed t p) v = b
+abbrev pub historyStep : History → Call → ℕ → History
+historyStep b (start t p) v = historyStart b t true
+historyStep b (end t) v = historyStart b t false
+historyStep b (make t q r) v = b
+historyStep b (enter t q) v = historyEnter b t q
+historyStep b (exit t) v = historyExit b t
+historyStep b (allocate t q r) v = historyAllocate b t (record { handle = v; slots = q; words = r })
+historyStep b (store t p q r) v = b
+historyStep b (load t p q) v = b
+historyStep b (write t p q r) v = b
+historyStep b (read t p q) v = b
+historyStep b (view t p) v = b
+historyStep b (viewed t p) v = b
 
 -- ".. and any refused call, change nothing."
-unfoldable pub bookLine : Book → Line → Book
-bookLine b l = pick (eqb (l .reply .status) 0) (bookStep b (l .call) (l .reply .value)) b
+unfoldable pub historyLine : History → Line → History
+historyLine b l = pick (eqb (l .reply .status) 0) (historyStep b (l .call) (l .reply .value)) b
 
 -- the book after the lines of a list, the newest first
-unfoldable pub bookOf : List Line → Book
-bookOf [] = blank
-bookOf (l ∷ ls) = bookLine (bookOf ls) l
+unfoldable pub historyOf : List Line → History
+historyOf [] = blank
+historyOf (l ∷ ls) = historyLine (historyOf ls) l
