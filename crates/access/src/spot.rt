@@ -27,7 +27,7 @@ pub fn may_use(words: &[u64; 548], bytes: &[u8; 3072], t: usize, area: u64) -> b
     ensures { λ r. ⌜ r ≡ hasRight (stateOf (now (words .entry)) (now (bytes .entry))) t Use area ⌝ }
 {
     let kind = stacks::kind_at(words, t);
-    rights::allowed(kind, rights::class_of(area), Right::Use)
+    rights::allowed_in(kind, area, Right::Use)
 }
 
 // Refusals 1, 2, 13 and 5, with which every call on an object begins.

@@ -78,7 +78,7 @@ fn check_allocate(
     }
     let kind = stacks::kind_at(words, t as usize);
     let area = threads::current_area(words, bytes, t as usize);
-    let may = rights::allowed(kind, rights::class_of(area as u64), Right::Allocate);
+    let may = rights::allowed_in(kind, area as u64, Right::Allocate);
     let x = tables::area_at(words, area as usize);
     let room = x.size - x.used;
     if !may {

@@ -28,7 +28,7 @@ fn check_entry(kind: u64, len: u64, inner: u64, x: Area, q: u64) -> u64
     if !make::is_made(x, q) {
         return 6;
     }
-    let allowed = rights::allowed(kind, rights::class_of(q), Right::Enter);
+    let allowed = rights::allowed_in(kind, q, Right::Enter);
     if !allowed {
         return 5;
     }

@@ -6,14 +6,13 @@ use mathlib.Core.List.{List}
 use mathlib.Core.Path.{_≡_, sym}
 use lib.ListN.{getD}
 use Rattle.rights.specs.Rights.{classOf, allows}
-use Rattle.rights.specs.declared.Class.{Class}
 use Rattle.rights.specs.declared.Right.{Right}
 use Rattle.model.specs.Checks.{hasRight}
 use Rattle.tables.specs.Decode.{stateOf}
 use Rattle.tables.specs.Laws.{kind-read}
 
--- n is a thread's kind, c the class of an area, z what the table says
-pub right-read : (w b : List ℕ) (t a : ℕ) (r : Right) → t < 16 → {z : Bool} {n : ℕ} {c : Class} → z ≡ allows n c r → n ≡ getD w (512 + t * 2) 0 → c ≡ classOf a
+-- n is a thread's kind, z what the table says for it and an area
+pub right-read : (w b : List ℕ) (t a : ℕ) (r : Right) → t < 16 → {z : Bool} {n : ℕ} → z ≡ allows n (classOf a) r → n ≡ getD w (512 + t * 2) 0
     → hasRight (stateOf w b) t r a ≡ z
 unfolding hasRight
-right-read w b t a r h e k c = rw (kind-read w b t h, ← k, ← c) (sym e)
+right-read w b t a r h e k = rw (kind-read w b t h, ← k) (sym e)

@@ -78,7 +78,7 @@ fn check_reference(
         return 15;
     };
     let kind = stacks::kind_at(words, t as usize);
-    if !rights::allowed(kind, rights::class_of(o.area), Right::Refer) {
+    if !rights::allowed_in(kind, o.area, Right::Refer) {
         return 5;
     }
     0

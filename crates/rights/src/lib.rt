@@ -60,19 +60,6 @@ const RIGHTS: [u8; 36] = [
     1, // no-heap: scope
 ];
 
-// The class of an area number.
-pub fn class_of(area: u64) -> Class
-    ensures { λ r. ⌜ r ≡ classOf area ⌝ }
-{
-    if area == 0 {
-        return Class::Heap;
-    }
-    if area == 1 {
-        return Class::Immortal;
-    }
-    Class::Scope
-}
-
 // The entry of a kind, of the entries of the three kinds; another kind has no right.
 fn of_kind(kind: u64, ordinary: u8, real_time: u8, no_heap: u8) -> bool
     ensures { λ r. ⌜ r ≡ ofKind kind ordinary «real_time» «no_heap» ⌝ }
@@ -129,7 +116,7 @@ fn in_scope(kind: u64, right: Right) -> bool
 }
 
 // Whether threads of a kind have a right in a class of areas; a kind that is not 1, 2 or 3 has none.
-pub fn allowed(kind: u64, class: Class, right: Right) -> bool
+fn allowed(kind: u64, class: Class, right: Right) -> bool
     ensures { λ r. ⌜ r ≡ allows kind class right ⌝ }
 {
     match class {
@@ -137,4 +124,18 @@ pub fn allowed(kind: u64, class: Class, right: Right) -> bool
         Class::Immortal => in_immortal(kind, right),
         Class::Scope => in_scope(kind, right)
     }
+}
+
+// The same for an area by its number. Each class is named at a branch of its own, so that the compiler
+// knows it where the table is read; a class that was computed first would be tested a second time.
+pub fn allowed_in(kind: u64, area: u64, right: Right) -> bool
+    ensures { λ r. ⌜ r ≡ allows kind (classOf area) right ⌝ }
+{
+    if area == 0 {
+        return allowed(kind, Class::Heap, right);
+    }
+    if area == 1 {
+        return allowed(kind, Class::Immortal, right);
+    }
+    allowed(kind, Class::Scope, right)
 }

@@ -6,7 +6,6 @@ use native.Mathlib.Omega.{arith}
 use borrow.Author.Needs.{needs}
 use borrow.Author.Tests.{not-true, not-false}
 use denote.Ref.{now}
-use Rattle.rights.specs.Rights.{classOf}
 use Rattle.rights.specs.declared.Right.the-variants.{Allocate}
 use Rattle.model.specs.State.{State, Memory, areaAt}
 use Rattle.model.specs.Checks.{hasRight}
@@ -39,17 +38,19 @@ called c = caller-admitted (state c) (memory c) (start c .args .t) (c .before .c
 low : (c : tie.After-current-area) → c .current-area .result < 64
 low c = rw (c .current-area .ensures) (current-area (state (c .before .before)) (start (c .before .before) .pre .good) (start (c .before .before) .args .t) (called (c .before .before) .thread))
 
-right : (c : tie.After-allowed) → hasRight (state (c .before .before .before .before)) (start (c .before .before .before .before) .args .t) Allocate (currentAt (state (c .before .before .before .before)) (start (c .before .before .before .before) .args .t)) ≡ c .allowed .result
-right c = right-read (now (start (c .before .before .before .before) .args .words)) (now (start (c .before .before .before .before) .args .bytes)) (start (c .before .before .before .before) .args .t) _ Allocate (called (c .before .before .before .before) .thread)
-    (c .allowed .ensures) (c .before .before .before .kind-at .ensures) (c .before .class-of .ensures ∙ ap classOf (c .before .before .current-area .ensures))
+right : (c : tie.After-allowed-in) → hasRight (state (c .before .before .before)) (start (c .before .before .before) .args .t) Allocate (currentAt (state (c .before .before .before)) (start (c .before .before .before) .args .t)) ≡ c .allowed-in .result
+right c =
+    let d = c .before .before .before in
+    ap (hasRight (state d) (start d .args .t) Allocate) (sym (c .before .current-area .ensures))
+    ∙ right-read (now (start d .args .words)) (now (start d .args .bytes)) (start d .args .t) _ Allocate (called d .thread) (c .allowed-in .ensures) (c .before .before .kind-at .ensures)
 
-area : (c : tie.After-area-at) → c .area-at .result ≡ areaAt (state (c .before .before .before .before .before)) (currentAt (state (c .before .before .before .before .before)) (start (c .before .before .before .before .before) .args .t))
+area : (c : tie.After-area-at) → c .area-at .result ≡ areaAt (state (c .before .before .before .before)) (currentAt (state (c .before .before .before .before)) (start (c .before .before .before .before) .args .t))
 area c = c .area-at .ensures
-    ∙ sym (area-read (now (start (c .before .before .before .before .before) .args .words)) (now (start (c .before .before .before .before .before) .args .bytes)) _ (low (c .before .before .before)))
-    ∙ ap (areaAt (state (c .before .before .before .before .before))) (c .before .before .before .current-area .ensures)
+    ∙ sym (area-read (now (start (c .before .before .before .before) .args .words)) (now (start (c .before .before .before .before) .args .bytes)) _ (low (c .before .before)))
+    ∙ ap (areaAt (state (c .before .before .before .before))) (c .before .before .current-area .ensures)
 
 used : (c : tie.After-area-at) → c .area-at .result .used ≤ c .area-at .result .size
-used c = rw (area c) (start (c .before .before .before .before .before) .pre .good .placed .used _ (rw (c .before .before .before .current-area .ensures) at (low (c .before .before .before))))
+used c = rw (area c) (start (c .before .before .before .before) .pre .good .placed .used _ (rw (c .before .before .current-area .ensures) at (low (c .before .before))))
 
 check-caller-requires : tie.Need-check-caller-requires
 check-caller-requires c κs = search needs
@@ -63,35 +64,32 @@ kind-at-requires c κs = called c .thread
 current-area-requires : tie.Need-current-area-requires
 current-area-requires c κs = (start (c .before) .pre, called (c .before) .thread)
 
-cast-class-of : tie.Need-cast-class-of
-cast-class-of c = search needs
+cast-allowed-in : tie.Need-cast-allowed-in
+cast-allowed-in c = search needs
 
-class-of-requires : tie.Need-class-of-requires
-class-of-requires c κs = search needs
-
-allowed-requires : tie.Need-allowed-requires
-allowed-requires c κs = search needs
+allowed-in-requires : tie.Need-allowed-in-requires
+allowed-in-requires c κs = search needs
 
 cast-area-at : tie.Need-cast-area-at
 cast-area-at c = search needs
 
 area-at-requires : tie.Need-area-at-requires
-area-at-requires c κs = low (c .before .before)
+area-at-requires c κs = low (c .before)
 
 sub-room : tie.Need-sub-room
 sub-room c = used (c .before)
 
 -- the right, past its test
-granted : (c : tie.Else2) → hasRight (state (c .before .before .before .before .before .before .before)) (start (c .before .before .before .before .before .before .before) .args .t) Allocate (currentAt (state (c .before .before .before .before .before .before .before)) (start (c .before .before .before .before .before .before .before) .args .t)) ≡ true
-granted c = right (c .before .before .before) ∙ not-false (c .before .before .before .allowed .result) (c .if2 .left)
+granted : (c : tie.Else2) → hasRight (state (c .before .before .before .before .before .before)) (start (c .before .before .before .before .before .before) .args .t) Allocate (currentAt (state (c .before .before .before .before .before .before)) (start (c .before .before .before .before .before .before) .args .t)) ≡ true
+granted c = right (c .before .before .before) ∙ not-false (c .before .before .before .allowed-in .result) (c .if2 .left)
 
 returns-2 : tie.Need-returns-2
-returns-2 c = allocate-no-right _ _ _ _ _ (called (c .before .before .before .before .before .before .before)) (right (c .before .before .before) ∙ not-true (c .before .before .before .allowed .result) (c .if2 .taken))
+returns-2 c = allocate-no-right _ _ _ _ _ (called (c .before .before .before .before .before .before)) (right (c .before .before .before) ∙ not-true (c .before .before .before .allowed-in .result) (c .if2 .taken))
 
 returns-3 : tie.Need-returns-3
 returns-3 c =
     let u = used (c .before .before .before) in
-    allocate-no-room _ _ _ _ _ (called (c .before .before .before .before .before .before .before .before)) (granted (c .before)) _ (area (c .before .before .before)) (omega arith)
+    allocate-no-room _ _ _ _ _ (called (c .before .before .before .before .before .before .before)) (granted (c .before)) _ (area (c .before .before .before)) (omega arith)
 
 sub-if4 : tie.Need-sub-if4
 sub-if4 c = search needs
@@ -99,12 +97,12 @@ sub-if4 c = search needs
 returns-4 : tie.Need-returns-4
 returns-4 c =
     let u = used (c .before .before .before .before) in
-    allocate-no-room _ _ _ _ _ (called (c .before .before .before .before .before .before .before .before .before)) (granted (c .before .before)) _ (area (c .before .before .before .before)) (omega arith)
+    allocate-no-room _ _ _ _ _ (called (c .before .before .before .before .before .before .before .before)) (granted (c .before .before)) _ (area (c .before .before .before .before)) (omega arith)
 
 returns-5 : tie.Need-returns-5
 returns-5 c =
     let u = used (c .before .before .before .before) in
-    allocate-room _ _ _ _ _ (called (c .before .before .before .before .before .before .before .before .before)) (granted (c .before .before)) _ (area (c .before .before .before .before)) (omega arith)
+    allocate-room _ _ _ _ _ (called (c .before .before .before .before .before .before .before .before)) (granted (c .before .before)) _ (area (c .before .before .before .before)) (omega arith)
 
 pub check-allocate-spec : {M : Type 1} → statement M
 check-allocate-spec =
@@ -114,9 +112,8 @@ check-allocate-spec =
     returns
     kind-at-requires
     current-area-requires
-    cast-class-of
-    class-of-requires
-    allowed-requires
+    cast-allowed-in
+    allowed-in-requires
     cast-area-at
     area-at-requires
     sub-room

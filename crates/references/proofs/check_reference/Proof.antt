@@ -32,10 +32,10 @@ past c = c .before .before .before .before
 seen : (c : tie.After-known-told) → At (c .before .o .given .0 .0) ≡ foundOf (state (past c)) (memory (past c)) (start (past c) .args .x)
 seen c = sym (c .before .o .given .1) ∙ c .before .before .before .lookup .ensures
 
-right : (c : tie.After-allowed) → hasRight (state (past (c .before .before .before))) (start (past (c .before .before .before)) .args .t) Refer (c .before .before .before .before .o .given .0 .0 .area) ≡ c .allowed .result
+right : (c : tie.After-allowed-in) → hasRight (state (past (c .before .before))) (start (past (c .before .before)) .args .t) Refer (c .before .before .before .o .given .0 .0 .area) ≡ c .allowed-in .result
 right c =
-    let d = past (c .before .before .before) in
-    right-read (now (start d .args .words)) (now (start d .args .bytes)) (start d .args .t) _ Refer (start d .pre .1) (c .allowed .ensures) (c .before .before .kind-at .ensures) (c .before .class-of .ensures)
+    let d = past (c .before .before) in
+    right-read (now (start d .args .words)) (now (start d .args .bytes)) (start d .args .t) _ Refer (start d .pre .1) (c .allowed-in .ensures) (c .before .kind-at .ensures)
 
 returns : tie.Need-returns
 returns c = reference-null _ _ _ _ (c .if1 .taken)
@@ -55,21 +55,18 @@ returns-2 c = reference-nothing _ _ _ _ (c .before .before .before .if1 .left) (
 kind-at-requires : tie.Need-kind-at-requires
 kind-at-requires c κs = start (past c) .pre .1
 
-class-of-requires : tie.Need-class-of-requires
-class-of-requires c κs = search needs
-
-allowed-requires : tie.Need-allowed-requires
-allowed-requires c κs = search needs
+allowed-in-requires : tie.Need-allowed-in-requires
+allowed-in-requires c κs = search needs
 
 returns-3 : tie.Need-returns-3
 returns-3 c =
-    let d = c .before .before .before .before in
-    reference-no-right _ _ _ _ (past d .if1 .left) _ (seen d) (right (c .before) ∙ not-true (c .before .allowed .result) (c .if2 .taken))
+    let d = c .before .before .before in
+    reference-no-right _ _ _ _ (past d .if1 .left) _ (seen d) (right (c .before) ∙ not-true (c .before .allowed-in .result) (c .if2 .taken))
 
 returns-4 : tie.Need-returns-4
 returns-4 c =
-    let d = c .before .before .before .before in
-    reference-right _ _ _ _ (past d .if1 .left) _ (seen d) (right (c .before) ∙ not-false (c .before .allowed .result) (c .if2 .left))
+    let d = c .before .before .before in
+    reference-right _ _ _ _ (past d .if1 .left) _ (seen d) (right (c .before) ∙ not-false (c .before .allowed-in .result) (c .if2 .left))
 
 pub check-reference-spec : {M : Type 1} → statement M
 check-reference-spec =
@@ -81,7 +78,6 @@ check-reference-spec =
     enum-told
     returns-2
     kind-at-requires
-    class-of-requires
-    allowed-requires
+    allowed-in-requires
     returns-3
     returns-4)

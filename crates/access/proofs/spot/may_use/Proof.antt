@@ -10,16 +10,13 @@ use Rattle.access.proofs.spot.may_use.Tie as tie
 kind-at-requires : tie.Need-kind-at-requires
 kind-at-requires c κs = search needs
 
-class-of-requires : tie.Need-class-of-requires
-class-of-requires c κs = search needs
-
-allowed-requires : tie.Need-allowed-requires
-allowed-requires c κs = search needs
+allowed-in-requires : tie.Need-allowed-in-requires
+allowed-in-requires c κs = search needs
 
 returns : tie.Need-returns
 returns c =
-    let d = c .before .before .before in
-    sym (right-read (now (d .args .words)) (now (d .args .bytes)) (d .args .t) (d .args .area) Use (d .pre) (c .allowed .ensures) (c .before .before .kind-at .ensures) (c .before .class-of .ensures))
+    let d = c .before .before in
+    sym (right-read (now (d .args .words)) (now (d .args .bytes)) (d .args .t) (d .args .area) Use (d .pre) (c .allowed-in .ensures) (c .before .kind-at .ensures))
 
 pub may-use-spec : {M : Type 1} → statement M
-may-use-spec = tie.close (tie.spec kind-at-requires class-of-requires allowed-requires returns)
+may-use-spec = tie.close (tie.spec kind-at-requires allowed-in-requires returns)
