@@ -93,8 +93,9 @@ fn check_allocate(
     0
 }
 
-// The effect of an accepted call: the object's map bits, its words, and the area's used words. Yields
-// its handle.
+// The effect of an accepted call: the area's used words, the object's map bits and its words. Yields
+// its handle. The area is written first: after a write to a buffer the compiler could not tell that
+// its other words are as they were read, and would write them too.
 fn apply_allocate(
     words: &mut [u64; 548],
     bytes: &[u8; 3072],
@@ -110,20 +111,21 @@ fn apply_allocate(
 {
     let area = threads::current_area(words, bytes, t) as u64;
     let x = tables::area_at(words, area as usize);
-    let at = (x.start + x.used) as usize;
-    let bit = objects::bit_index(permanent.len(), area, at);
-    mark_object(map, bit, (slots + data_words) as usize);
-    lay_object(permanent, scratch, area, at, slots, data_words);
+    let used = x.used + 1 + slots + data_words;
     let next = Area {
         start: x.start,
         size: x.size,
-        used: x.used + 1 + slots + data_words,
+        used,
         generation: x.generation,
         count: x.count,
         parent: x.parent,
         depth: x.depth,
     };
     tables::put_area(words, area as usize, next);
+    let at = (x.start + x.used) as usize;
+    let bit = objects::bit_index(permanent.len(), area, at);
+    mark_object(map, bit, (slots + data_words) as usize);
+    lay_object(permanent, scratch, area, at, slots, data_words);
     handle::pack(x.used, area, x.generation)
 }
 

@@ -102,7 +102,8 @@ fn show(bytes: &mut [u8; 3072], q: usize, p: usize, depth: Depth)
     rows::put_ancestor(bytes, q, depth, next[last]);
 }
 
-// Area q is entered where p is the innermost scope; its generation after that.
+// Area q is entered where p is the innermost scope; its generation after that. The area is written before
+// the display: the compiler then sees that its start and size are as they were read.
 fn enter_area(words: &mut [u64; 548], bytes: &mut [u8; 3072], q: usize, p: usize) -> u64
     requires { ⌜ Sized (now words) (now bytes) × Openable (stateOf (now words) (now bytes)) q p ⌝ }
     ensures { λ r. ⌜ r ≡ enterValue (stateOf (now (words .entry)) (now (bytes .entry))) q ⌝ }
@@ -118,8 +119,8 @@ fn enter_area(words: &mut [u64; 548], bytes: &mut [u8; 3072], q: usize, p: usize
     }
     let depth = Depth(tables::area_at(words, p).depth as usize);
     let y = opened_area(x, p as u64, depth);
-    show(bytes, q, p, depth);
     tables::put_area(words, q, y);
+    show(bytes, q, p, depth);
     y.generation
 }
 

@@ -1,10 +1,10 @@
 -- `apply_allocate` meets its contract: the object's words and bits lie in the current area, which has room for them.
 use mathlib.Core.Path.{_≡_, sym, _∙_}
-use Prim.Native.Nat.{_<_}
+use Prim.Native.Nat.{_+_, _≤_, _<_}
 use native.Mathlib.Omega.{arith}
 use borrow.Author.Needs.{needs}
 use denote.Ref.{now}
-use Rattle.model.specs.State.{Memory, areaAt}
+use Rattle.model.specs.State.{State, Memory, areaAt}
 use Rattle.tables.specs.Decode.{stateOf}
 use Rattle.tables.specs.Laws.{area-read}
 use Rattle.tables.specs.Contract.{memoryOf}
@@ -12,8 +12,12 @@ use Rattle.allocation.specs.Allocation.{area-low, words-low, words-in, b
 use Rattle.allocation.proofs.apply_allocate.Statement.{statement}
 use Rattle.allocation.proofs.apply_allocate.Tie as tie
 
+-- the area is read: the entry, the state and the memory
 abbrev start : tie.After-area-at → tie.Start
 start c = c .before .before .before .before .before .before .before
+
+abbrev state : tie.After-area-at → State
+state c = stateOf (now (start c .args .words)) (now (start c .args .bytes))
 
 abbrev memory : tie.After-area-at → Memory
 memory c = memoryOf (now (start c .args .permanent)) (now (start c .args .scratch)) (now (start c .args .map))
@@ -23,8 +27,22 @@ low c =
     let i = c .before .before .before .before .before .before in
     area-low (now (i .args .words)) (now (i .args .bytes)) _ _ _ _ (i .pre .0) (i .pre .1) _ (c .before .current-area .ensures)
 
-area : (c : tie.After-area-at) → c .area-at .result ≡ areaAt (stateOf (now (start c .args .words)) (now (start c .args .bytes))) (c .before .before .current-area .result)
+area : (c : tie.After-area-at) → c .area-at .result ≡ areaAt (state c) (c .before .before .current-area .result)
 area c = c .area-at .ensures ∙ sym (area-read (now (start c .args .words)) (now (start c .args .bytes)) _ (low (c .before)))
+
+-- the object ends within the words that a handle can name
+fits : (c : tie.After-area-at) → c .area-at .result .start + c .area-at .result .used + 1 + start c .args .slots + start c .args .data-words ≤ 16384
+fits c = words-low (now (start c .args .words)) (now (start c .args .bytes)) (memory c) _ _ _ (start c .pre .0) (start c .pre .1) _ (c .before .before .current-area .ensures) _ (area c)
+
+-- the area as it was read, from what comes later: the area is written, its bit found, its bits and its words written
+abbrev read : tie.After-put-area → tie.After-area-at
+read c = c .before .before .before
+
+abbrev found : tie.After-bit-index → tie.After-area-at
+found c = read (c .before .before)
+
+abbrev marked : tie.After-mark-object → tie.After-bit-index
+marked c = c .before .before
 
 current-area-requires : tie.Need-current-area-requires
 current-area-requires c κs =
@@ -37,52 +55,42 @@ cast-area c = search needs
 area-at-requires : tie.Need-area-at-requires
 area-at-requires c κs = low c
 
+add-used : tie.Need-add-used
+add-used c = omega (arith, fits (c .before))
+
+add-used-2 : tie.Need-add-used-2
+add-used-2 c = omega (arith, fits (c .before))
+
+add-used-3 : tie.Need-add-used-3
+add-used-3 c = omega (arith, fits (c .before))
+
+put-area-requires : tie.Need-put-area-requires
+put-area-requires c κs = low (c .before .before .before)
+
 add-at : tie.Need-add-at
-add-at c =
-    let i = start (c .before) in
-    omega (arith, words-low (now (i .args .words)) (now (i .args .bytes)) (memory (c .before)) _ _ _ (i .pre .0) (i .pre .1) _ (c .before .before .before .current-area .ensures) _ (area (c .before)))
+add-at c = omega (arith, fits (read (c .before)))
 
 bit-index-requires : tie.Need-bit-index-requires
 bit-index-requires c κs =
-    let i = start (c .before) in
-    bit-sum (now (i .args .words)) (now (i .args .bytes)) (memory (c .before)) _ _ _ (i .pre .0) (i .pre .1) _ (c .before .before .before .current-area .ensures) _ (area (c .before))
+    let d = read (c .before) in
+    bit-sum (now (start d .args .words)) (now (start d .args .bytes)) (memory d) _ _ _ (start d .pre .0) (start d .pre .1) _ (d .before .before .current-area .ensures) _ (area d)
 
 add-mark-object : tie.Need-add-mark-object
-add-mark-object c =
-    let i = start (c .before .before .before) in
-    omega (arith, words-low (now (i .args .words)) (now (i .args .bytes)) (memory (c .before .before .before)) _ _ _ (i .pre .0) (i .pre .1) _ (c .before .before .before .before .before .current-area .ensures) _ (area (c .before .before .before)))
+add-mark-object c = omega (arith, fits (found (c .before)))
 
 mark-object-requires : tie.Need-mark-object-requires
 mark-object-requires c κs =
-    let i = start (c .before .before .before) in (
-      bits-in (now (i .args .words)) (now (i .args .bytes)) (memory (c .before .before .before)) _ _ _ (i .pre .0) (i .pre .1) _ (c .before .before .before .before .before .current-area .ensures) _ (area (c .before .before .before)) _ (c .before .bit-index .ensures),
-      bits-low (now (i .args .words)) (now (i .args .bytes)) (memory (c .before .before .before)) _ _ _ (i .pre .0) (i .pre .1) _ (c .before .before .before .before .before .current-area .ensures) _ (area (c .before .before .before)) _ (c .before .bit-index .ensures),
+    let d = found (c .before) in (
+      bits-in (now (start d .args .words)) (now (start d .args .bytes)) (memory d) _ _ _ (start d .pre .0) (start d .pre .1) _ (d .before .before .current-area .ensures) _ (area d) _ (c .before .bit-index .ensures),
+      bits-low (now (start d .args .words)) (now (start d .args .bytes)) (memory d) _ _ _ (start d .pre .0) (start d .pre .1) _ (d .before .before .current-area .ensures) _ (area d) _ (c .before .bit-index .ensures),
     )
 
 lay-object-requires : tie.Need-lay-object-requires
 lay-object-requires c κs =
-    let i = start (c .before .before .before .before .before .before .before .before) in (
-      words-in (now (i .args .words)) (now (i .args .bytes)) (memory (c .before .before .before .before .before .before .before .before)) _ _ _ (i .pre .0) (i .pre .1) _ (c .before .before .before .before .before .before .before .before .before .before .current-area .ensures) _ (area (c .before .before .before .before .before .before .before .before)),
-      words-low (now (i .args .words)) (now (i .args .bytes)) (memory (c .before .before .before .before .before .before .before .before)) _ _ _ (i .pre .0) (i .pre .1) _ (c .before .before .before .before .before .before .before .before .before .before .current-area .ensures) _ (area (c .before .before .before .before .before .before .before .before)),
+    let d = found (marked (c .before .before .before .before)) in (
+      words-in (now (start d .args .words)) (now (start d .args .bytes)) (memory d) _ _ _ (start d .pre .0) (start d .pre .1) _ (d .before .before .current-area .ensures) _ (area d),
+      fits d,
     )
-
-add-t18 : tie.Need-add-t18
-add-t18 c =
-    let i = start (c .before .before .before .before .before .before .before .before .before .before .before .before .before .before) in
-    omega (arith, words-low (now (i .args .words)) (now (i .args .bytes)) (memory (c .before .before .before .before .before .before .before .before .before .before .before .before .before .before)) _ _ _ (i .pre .0) (i .pre .1) _ (c .before .before .before .before .before .before .before .before .before .before .before .before .before .before .before .before .current-area .ensures) _ (area (c .before .before .before .before .before .before .before .before .before .before .before .before .before .before)))
-
-add-t26 : tie.Need-add-t26
-add-t26 c =
-    let i = start (c .before .before .before .before .before .before .before .before .before .before .before .before .before .before) in
-    omega (arith, words-low (now (i .args .words)) (now (i .args .bytes)) (memory (c .before .before .before .before .before .before .before .before .before .before .before .before .before .before)) _ _ _ (i .pre .0) (i .pre .1) _ (c .before .before .before .before .before .before .before .before .before .before .before .before .before .before .before .before .current-area .ensures) _ (area (c .before .before .before .before .before .before .before .before .before .before .before .before .before .before)))
-
-add-t27 : tie.Need-add-t27
-add-t27 c =
-    let i = start (c .before .before .before .before .before .before .before .before .before .before .before .before .before .before) in
-    omega (arith, words-low (now (i .args .words)) (now (i .args .bytes)) (memory (c .before .before .before .before .before .before .before .before .before .before .before .before .before .before)) _ _ _ (i .pre .0) (i .pre .1) _ (c .before .before .before .before .before .before .before .before .before .before .before .before .before .before .before .before .current-area .ensures) _ (area (c .before .before .before .before .before .before .before .before .before .before .before .before .before .before)))
-
-put-area-requires : tie.Need-put-area-requires
-put-area-requires c κs = low (c .before .before .before .before .before .before .before .before .before .before .before .before .before .before .before .before)
 
 pack-requires : tie.Need-pack-requires
 pack-requires c κs = search needs
@@ -98,10 +106,14 @@ same-length-3 c = search needs
 
 returns : tie.Need-returns
 returns c =
-    let i = start (c .before .before .before .before .before .before .before .before .before .before .before .before .before .before .before .before .before) in
-    rw (c .before .put-area .ensures)
-    (allocated (now (i .args .words)) (now (i .args .bytes)) (memory (c .before .before .before .before .before .before .before .before .before .before .before .before .before .before .before .before .before)) _ _ _ (i .pre .0) (i .pre .1) _ (c .before .before .before .before .before .before .before .before .before .before .before .before .before .before .before .before .before .before .before .current-area .ensures) _ (area (c .before .before .before .before .before .before .before .before .before .before .before .before .before .before .before .before .before)) _ (c .before .before .before .before .before .before .before .before .before .before .before .before .before .before .before .bit-index .ensures)
-    (c .before .before .before .before .before .before .before .before .before .before .before .before .before .mark-object .ensures) (c .before .before .before .before .before .before .before .before .lay-object .ensures) (c .pack .ensures))
+    let l = c .before .before .before .before .before in
+    let m = l .before .before .before .before .before in
+    let b = marked m in
+    let p = b .before .before in
+    let d = read p in
+    rw (p .put-area .ensures)
+    (allocated (now (start d .args .words)) (now (start d .args .bytes)) (memory d) _ _ _ (start d .pre .0) (start d .pre .1) _ (d .before .before .current-area .ensures) _ (area d) _ (b .bit-index .ensures)
+    (m .mark-object .ensures) (l .lay-object .ensures) (c .pack .ensures))
 
 pub apply-allocate-spec : {M : Type 1} → statement M
 apply-allocate-spec =
@@ -110,15 +122,15 @@ apply-allocate-spec =
     current-area-requires
     cast-area
     area-at-requires
+    add-used
+    add-used-2
+    add-used-3
+    put-area-requires
     add-at
     bit-index-requires
     add-mark-object
     mark-object-requires
     lay-object-requires
-    add-t18
-    add-t26
-    add-t27
-    put-area-requires
     pack-requires
     same-length
     same-length-2

@@ -1,4 +1,4 @@
--- `areas::enter::enter_area` meets its contract. Assumes nothing.
+-- `enter_area` meets its contract: an area that stands, a scope that is open, one that opens.
 use denote.Ref.{now}
 use borrow.Author.Needs.{needs}
 use Rattle.entry.specs.Enter.{count-room, depth-room, generation-room}
@@ -45,14 +45,14 @@ opened-area-requires c κs =
     let a = o .args in
     (generation-room (now (a .words)) (now (a .bytes)) (a .q) (a .p) (o .pre .1) (c .before .before .before .before .before .area-at .ensures) (search needs) (search needs), depth-room (now (a .words)) (now (a .bytes)) (a .q) (a .p) (o .pre .1) (c .area-at2 .ensures))
 
-show-requires : tie.Need-show-requires
-show-requires c κs =
-    let o = c .before .before .before .before .before .before .before .before .before in
-    let a = o .args in
-    (search needs, search needs, depth-room (now (a .words)) (now (a .bytes)) (a .q) (a .p) (o .pre .1) (c .before .before .area-at2 .ensures))
-
 put-area-requires-2 : tie.Need-put-area-requires-2
 put-area-requires-2 c κs = search needs
+
+show-requires : tie.Need-show-requires
+show-requires c κs =
+    let o = c .before .before .before .before .before .before .before .before .before .before .before in
+    let a = o .args in
+    (search needs, search needs, depth-room (now (a .words)) (now (a .bytes)) (a .q) (a .p) (o .pre .1) (c .before .before .before .before .area-at2 .ensures))
 
 returns-3 : tie.Need-returns-3
 returns-3 c =
@@ -60,7 +60,7 @@ returns-3 c =
     let a = o .args in
     let h = o .pre .1 in (
       value-fresh (now (a .words)) (now (a .bytes)) (o .pre .0) (a .q) (a .p) (h .area) (h .parent) (c .before .before .before .before .before .before .before .before .before .before .area-at .ensures) (search needs) (search needs) (c .before .before .before .before .before .area-at2 .ensures) (c .before .before .before .before .opened-area .ensures),
-      entered-fresh (now (a .words)) (now (a .bytes)) (o .pre .0) (a .q) (a .p) (h .area) (h .parent) (c .before .before .before .before .before .before .before .before .before .before .area-at .ensures) (search needs) (search needs) (c .before .before .before .before .before .area-at2 .ensures) (c .before .before .before .before .opened-area .ensures) (c .before .before .show .ensures) (c .put-area2 .ensures),
+      entered-fresh (now (a .words)) (now (a .bytes)) (o .pre .0) (a .q) (a .p) (h .area) (h .parent) (c .before .before .before .before .before .before .before .before .before .before .area-at .ensures) (search needs) (search needs) (c .before .before .before .before .before .area-at2 .ensures) (c .before .before .before .before .opened-area .ensures) (c .show .ensures) (c .before .before .put-area2 .ensures),
     )
 
 pub enter-area-spec : {M : Type 1} → statement M
@@ -74,6 +74,6 @@ enter-area-spec =
     returns-2
     area-at-requires-2
     opened-area-requires
-    show-requires
     put-area-requires-2
+    show-requires
     returns-3)
