@@ -74,7 +74,7 @@ module _ (s : State) (m : Memory) (t p : ℕ) where
           admit-rest s m t a _ ∙ skip (not (isObject s m p)) 13 _ found
           ∙ skip (not (hasRight s t Use (areaOf p))) 5 0 (ap not (ap (hasRight s t Use) (sym (found-area s m p o e)) ∙ r)))
 
-  -- ---- refusal 14: a data word; n is what check_use answers
+  -- ---- refusal 14: a data word; n is what check_object answers
 
   module _ (q : ℕ) where
     pub data-not-used : {n : ℕ} → n ≡ useStatus s m t p 0 → n ≢ 0 → n ≡ dataStatus s m t p q

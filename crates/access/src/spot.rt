@@ -1,4 +1,4 @@
-// What the calls on an object have in common: refusals 1, 2, 13 and 5, and a word that is written.
+// What the calls on an object have in common: refusals 13 and 5, and a word that is written.
 use objects::Found;
 use objects::Object;
 use rights::Right;
@@ -9,6 +9,7 @@ ghost use Rattle.layout.specs.Choice.{pick};
 ghost use Rattle.rights.specs.declared.Right.the-variants.{Use};
 ghost use Rattle.model.specs.State.{isScope};
 ghost use Rattle.model.specs.Checks.{hasRight, useStatus};
+ghost use Rattle.model.proofs.Accepted.{Admitted};
 ghost use Rattle.tables.specs.Decode.{stateOf};
 ghost use Rattle.tables.specs.Contract.{memoryOf, Ready};
 ghost use Rattle.objects.specs.Found.{objectOf};
@@ -22,7 +23,7 @@ pub enum Spot {
 }
 
 // Whether a thread may use an object of an area.
-pub fn may_use(words: &[u64; 548], bytes: &[u8; 3072], t: usize, area: u64) -> bool
+fn may_use(words: &[u64; 548], bytes: &[u8; 3072], t: usize, area: u64) -> bool
     requires { ⌜ t < 16 ⌝ }
     ensures { λ r. ⌜ r ≡ hasRight (stateOf (now (words .entry)) (now (bytes .entry))) t Use area ⌝ }
 {
@@ -30,8 +31,9 @@ pub fn may_use(words: &[u64; 548], bytes: &[u8; 3072], t: usize, area: u64) -> b
     rights::allowed_in(kind, area, Right::Use)
 }
 
-// Refusals 1, 2, 13 and 5, with which every call on an object begins.
-pub fn check_use(
+// Refusals 13 and 5, for a call that has passed 1 and 2. Without those two it is small enough to be
+// inlined in every op; a call would hand the buffers over through memory.
+pub fn check_object(
     words: &[u64; 548],
     bytes: &[u8; 3072],
     permanent: &[u64],
@@ -40,13 +42,9 @@ pub fn check_use(
     t: u64,
     p: u64,
 ) -> Spot
-    requires { ⌜ Ready (now words) (now bytes) ⌝ }
+    requires { ⌜ Ready (now words) (now bytes) × Admitted (stateOf (now words) (now bytes)) (memoryOf (now permanent) (now scratch) (now map)) t ⌝ }
     ensures { λ r. ⌜ r ≡ spotOf (objectOf (stateOf (now (words .entry)) (now (bytes .entry))) (memoryOf (now (permanent .entry)) (now (scratch .entry)) (now (map .entry))) p) (useStatus (stateOf (now (words .entry)) (now (bytes .entry))) (memoryOf (now (permanent .entry)) (now (scratch .entry)) (now (map .entry))) t p 0) ⌝ }
 {
-    let n = threads::check_caller(words, bytes, permanent, scratch, map, t);
-    if n != 0 {
-        return Spot::Refused(n);
-    }
     let Found::At(o) = objects::lookup(words, bytes, permanent, scratch, map, p) else {
         return Spot::Refused(13);
     };

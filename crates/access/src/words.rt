@@ -1,16 +1,40 @@
-// Ops 09 and 0a: a data word is written or read. Their checks are written out in each, refusals 1, 2,
-// 13, 5 and 14: a check that both called would be too large to be inlined, and a call hands the
-// buffers over through memory.
+// Ops 09 and 0a: a data word is written or read.
 use crate::spot;
+use crate::spot::Spot;
 use layout::stack::Answer;
-use objects::Found;
 ghost use mathlib.Core.Path.{_≡_};
 ghost use Rattle.model.specs.Data.{dataStatus};
 ghost use Rattle.model.specs.Calls as calls;
+ghost use Rattle.model.proofs.Accepted.{Admitted};
 ghost use Rattle.tables.specs.Decode.{stateOf};
 ghost use Rattle.tables.specs.Contract.{memoryOf, Ready, Told, Written};
 ghost use Rattle.objects.specs.Found.{objectOf};
 ghost use Rattle.access.specs.Spots.{spotOf};
+
+// Refusals 13, 5 and 14, for a call that has passed 1 and 2: an object and one of its data words.
+fn check_data(
+    words: &[u64; 548],
+    bytes: &[u8; 3072],
+    permanent: &[u64],
+    scratch: &[u64],
+    map: &[u64],
+    t: u64,
+    p: u64,
+    q: u64,
+) -> Spot
+    requires { ⌜ Ready (now words) (now bytes) × Admitted (stateOf (now words) (now bytes)) (memoryOf (now permanent) (now scratch) (now map)) t ⌝ }
+    ensures { λ r. ⌜ r ≡ spotOf (objectOf (stateOf (now (words .entry)) (now (bytes .entry))) (memoryOf (now (permanent .entry)) (now (scratch .entry)) (now (map .entry))) p) (dataStatus (stateOf (now (words .entry)) (now (bytes .entry))) (memoryOf (now (permanent .entry)) (now (scratch .entry)) (now (map .entry))) t p q) ⌝ }
+{
+    match spot::check_object(words, bytes, permanent, scratch, map, t, p) {
+        Spot::Refused(n) => Spot::Refused(n),
+        Spot::In(o) => {
+            if o.words <= q {
+                return Spot::Refused(14);
+            }
+            Spot::In(o)
+        }
+    }
+}
 
 // Op 09: object p, data word q, the new word; the value is 0.
 pub fn write(
@@ -35,28 +59,15 @@ pub fn write(
             value: 0,
         };
     }
-    let Found::At(o) = objects::lookup(words, bytes, permanent, scratch, map, p) else {
-        return Answer {
-            status: 13,
-            value: 0,
-        };
-    };
-    if !spot::may_use(words, bytes, t as usize, o.area) {
-        return Answer {
-            status: 5,
-            value: 0,
-        };
+    match check_data(words, bytes, permanent, scratch, map, t, p, q) {
+        Spot::Refused(status) => Answer { status, value: 0 },
+        Spot::In(o) => {
+            let at = o.at + 1 + (o.slots + q) as usize;
+            spot::put_word(permanent, scratch, o.area, at, word);
+            let value = 0; // none is named
+            Answer { status: 0, value }
+        }
     }
-    if o.words <= q {
-        return Answer {
-            status: 14,
-            value: 0,
-        };
-    }
-    let at = o.at + 1 + (o.slots + q) as usize;
-    spot::put_word(permanent, scratch, o.area, at, word);
-    let value = 0; // none is named
-    Answer { status: 0, value }
 }
 
 // Op 0a: object p, data word q; the value is the word.
@@ -80,28 +91,18 @@ pub fn read(
             value: 0,
         };
     }
-    let Found::At(x) = objects::lookup(words, bytes, permanent, scratch, map, p) else {
-        return Answer {
-            status: 13,
+    match check_data(words, bytes, permanent, scratch, map, t, p, q) {
+        Spot::Refused(n) => Answer {
+            status: n,
             value: 0,
-        };
-    };
-    if !spot::may_use(words, bytes, t as usize, x.area) {
-        return Answer {
-            status: 5,
-            value: 0,
-        };
-    }
-    if x.words <= q {
-        return Answer {
-            status: 14,
-            value: 0,
-        };
-    }
-    let from = x.at + 1 + (x.slots + q) as usize;
-    let word = objects::word_at(permanent, scratch, x.area, from);
-    Answer {
-        status: 0,
-        value: word,
+        },
+        Spot::In(x) => {
+            let from = x.at + 1 + (x.slots + q) as usize;
+            let word = objects::word_at(permanent, scratch, x.area, from);
+            Answer {
+                status: 0,
+                value: word,
+            }
+        }
     }
 }

@@ -25,7 +25,7 @@ use Rattle.objects.specs.Places.{at-live, nothing-live}
 use Rattle.access.specs.Chains.{Chain, chain-none, chain-more}
 use Rattle.access.specs.Statuses.{object-slots, found-area, use-chain}
 
--- ---- refusal 14: a slot; n is what check_use answers
+-- ---- refusal 14: a slot; n is what check_object answers
 
 module _ (s : State) (m : Memory) (t p q : ℕ) where
   pub slot-chain : Chain (slotStatus s m t p q)

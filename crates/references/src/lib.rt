@@ -11,6 +11,7 @@ ghost use Prim.Native.Nat.{_<_};
 ghost use Rattle.model.specs.Checks.{fits};
 ghost use Rattle.model.specs.References.{mayRefer, slotStatus, referenceStatus, storeStatus};
 ghost use Rattle.model.specs.Calls as calls;
+ghost use Rattle.model.proofs.Accepted.{Admitted};
 ghost use Rattle.tables.specs.Decode.{stateOf};
 ghost use Rattle.tables.specs.Contract.{memoryOf, Ready, Told, Written};
 ghost use Rattle.objects.specs.Found.{objectOf};
@@ -33,7 +34,7 @@ fn may_refer(words: &[u64; 548], bytes: &[u8; 3072], object: u64, target: u64) -
     rows::row_holds(bytes, object as usize, Depth(depth as usize), target as u8)
 }
 
-// Refusals 1, 2, 13, 5 and 14: an object and one of its slots.
+// Refusals 13, 5 and 14, for a call that has passed 1 and 2: an object and one of its slots.
 fn check_slot(
     words: &[u64; 548],
     bytes: &[u8; 3072],
@@ -44,10 +45,10 @@ fn check_slot(
     p: u64,
     q: u64,
 ) -> Spot
-    requires { ⌜ Ready (now words) (now bytes) ⌝ }
+    requires { ⌜ Ready (now words) (now bytes) × Admitted (stateOf (now words) (now bytes)) (memoryOf (now permanent) (now scratch) (now map)) t ⌝ }
     ensures { λ r. ⌜ r ≡ spotOf (objectOf (stateOf (now (words .entry)) (now (bytes .entry))) (memoryOf (now (permanent .entry)) (now (scratch .entry)) (now (map .entry))) p) (slotStatus (stateOf (now (words .entry)) (now (bytes .entry))) (memoryOf (now (permanent .entry)) (now (scratch .entry)) (now (map .entry))) t p q 0) ⌝ }
 {
-    match access::check_use(words, bytes, permanent, scratch, map, t, p) {
+    match access::check_object(words, bytes, permanent, scratch, map, t, p) {
         Spot::Refused(n) => Spot::Refused(n),
         Spot::In(o) => {
             if o.slots <= q {
@@ -86,7 +87,7 @@ fn check_reference(
 
 // ---- op 07, store reference
 
-// Its refusals. Null's area is the heap, so the assignment rule lets it pass.
+// Its refusals past 1 and 2. Null's area is the heap, so the assignment rule lets it pass.
 fn check_store(
     words: &[u64; 548],
     bytes: &[u8; 3072],
@@ -98,7 +99,7 @@ fn check_store(
     q: u64,
     target: u64,
 ) -> Spot
-    requires { ⌜ Ready (now words) (now bytes) ⌝ }
+    requires { ⌜ Ready (now words) (now bytes) × Admitted (stateOf (now words) (now bytes)) (memoryOf (now permanent) (now scratch) (now map)) t ⌝ }
     ensures { λ r. ⌜ r ≡ spotOf (objectOf (stateOf (now (words .entry)) (now (bytes .entry))) (memoryOf (now (permanent .entry)) (now (scratch .entry)) (now (map .entry))) p) (storeStatus (stateOf (now (words .entry)) (now (bytes .entry))) (memoryOf (now (permanent .entry)) (now (scratch .entry)) (now (map .entry))) t p q target) ⌝ }
 {
     match check_slot(words, bytes, permanent, scratch, map, t, p, q) {
@@ -133,6 +134,13 @@ pub fn store(
     ensures { λ r. ⌜ Told (r .status) (r .value) (stateOf (now (words .entry)) (now (bytes .entry))) (calls.outcomeOf (stateOf (now (words .entry)) (now (bytes .entry))) (memoryOf (now (permanent .entry)) (now (scratch .entry)) (now (map .entry))) (calls.store t p q target)) ⌝ }
     ensures { λ r. ⌜ Written (now (permanent .exit)) (now (scratch .exit)) (now (map .entry)) (calls.outcomeOf (stateOf (now (words .entry)) (now (bytes .entry))) (memoryOf (now (permanent .entry)) (now (scratch .entry)) (now (map .entry))) (calls.store t p q target)) ⌝ }
 {
+    let caller = threads::check_caller(words, bytes, permanent, scratch, map, t);
+    if caller != 0 {
+        return Answer {
+            status: caller,
+            value: 0,
+        };
+    }
     match check_store(words, bytes, permanent, scratch, map, t, p, q, target) {
         Spot::Refused(status) => Answer { status, value: 0 },
         Spot::In(o) => {
@@ -162,6 +170,13 @@ pub fn load(
     requires { ⌜ Ready (now words) (now bytes) ⌝ }
     ensures { λ r. ⌜ Told (r .status) (r .value) (stateOf (now (words .entry)) (now (bytes .entry))) (calls.outcomeOf (stateOf (now (words .entry)) (now (bytes .entry))) (memoryOf (now (permanent .entry)) (now (scratch .entry)) (now (map .entry))) (calls.load t p q)) ⌝ }
 {
+    let refusal = threads::check_caller(words, bytes, permanent, scratch, map, t);
+    if refusal != 0 {
+        return Answer {
+            status: refusal,
+            value: 0,
+        };
+    }
     match check_slot(words, bytes, permanent, scratch, map, t, p, q) {
         Spot::Refused(status) => Answer { status, value: 0 },
         Spot::In(o) => {

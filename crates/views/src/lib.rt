@@ -5,10 +5,13 @@ use layout::stack::Answer;
 ghost use mathlib.Core.Path.{_≡_};
 ghost use Rattle.layout.specs.Choice.{pick};
 ghost use Rattle.model.specs.State.{isScope};
+ghost use Rattle.model.specs.Checks.{useStatus};
 ghost use Rattle.model.specs.Data.{viewWords};
 ghost use Rattle.model.specs.Calls as calls;
 ghost use Rattle.tables.specs.Decode.{stateOf};
 ghost use Rattle.tables.specs.Contract.{memoryOf, Ready, Told};
+ghost use Rattle.objects.specs.Found.{objectOf};
+ghost use Rattle.access.specs.Spots.{spotOf};
 ghost use Rattle.views.specs.PlacedView.{partOf, PlacedView};
 
 // A shown part by numbers: the status of the call; store 0 for the permanent one, 1 for the scratch;
@@ -19,6 +22,26 @@ pub struct Part {
     pub store: u64,
     pub from: u64,
     pub len: u64,
+}
+
+// Refusals 1, 2, 13 and 5.
+fn check_view(
+    words: &[u64; 548],
+    bytes: &[u8; 3072],
+    permanent: &[u64],
+    scratch: &[u64],
+    map: &[u64],
+    t: u64,
+    p: u64,
+) -> Spot
+    requires { ⌜ Ready (now words) (now bytes) ⌝ }
+    ensures { λ r. ⌜ r ≡ spotOf (objectOf (stateOf (now (words .entry)) (now (bytes .entry))) (memoryOf (now (permanent .entry)) (now (scratch .entry)) (now (map .entry))) p) (useStatus (stateOf (now (words .entry)) (now (bytes .entry))) (memoryOf (now (permanent .entry)) (now (scratch .entry)) (now (map .entry))) t p 0) ⌝ }
+{
+    let n = threads::check_caller(words, bytes, permanent, scratch, map, t);
+    if n != 0 {
+        return Spot::Refused(n);
+    }
+    access::check_object(words, bytes, permanent, scratch, map, t, p)
 }
 
 // The store that has an area's words.
@@ -44,7 +67,7 @@ pub fn view_place(
     requires { ⌜ Ready (now words) (now bytes) ⌝ }
     ensures { λ r. ⌜ r ≡ partOf (stateOf (now (words .entry)) (now (bytes .entry))) (memoryOf (now (permanent .entry)) (now (scratch .entry)) (now (map .entry))) t p ⌝ }
 {
-    match access::check_use(words, bytes, permanent, scratch, map, t, p) {
+    match check_view(words, bytes, permanent, scratch, map, t, p) {
         Spot::Refused(n) => Part {
             status: n,
             store: 0,
@@ -97,7 +120,7 @@ pub fn view_status(
     requires { ⌜ Ready (now words) (now bytes) ⌝ }
     ensures { λ r. ⌜ Told (r .status) (r .value) (stateOf (now (words .entry)) (now (bytes .entry))) (calls.outcomeOf (stateOf (now (words .entry)) (now (bytes .entry))) (memoryOf (now (permanent .entry)) (now (scratch .entry)) (now (map .entry))) (calls.viewed t p)) ⌝ }
 {
-    match access::check_use(words, bytes, permanent, scratch, map, t, p) {
+    match check_view(words, bytes, permanent, scratch, map, t, p) {
         Spot::Refused(status) => Answer { status, value: 0 },
         Spot::In(_) => Answer {
             status: 0,

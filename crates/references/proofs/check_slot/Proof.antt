@@ -1,4 +1,4 @@
--- `check_slot` meets its contract: refused by check_use, past the end, or within it.
+-- `check_slot` meets its contract: refused by check_object, past the end, or within it.
 use mathlib.Core.Path.{_≡_, sym, _∙_}
 use borrow.Author.Needs.{needs}
 use denote.Ref.{now}
@@ -13,21 +13,21 @@ use Rattle.references.specs.Statuses.{slot-not-used, slot-past, slot-in}
 use Rattle.references.proofs.check_slot.Statement.{statement}
 use Rattle.references.proofs.check_slot.Tie as tie
 
-abbrev start : tie.After-check-use → tie.Start
+abbrev start : tie.After-check-object → tie.Start
 start c = c .before .before .before .before
 
-abbrev state : tie.After-check-use → State
+abbrev state : tie.After-check-object → State
 state c = stateOf (now (start c .args .words)) (now (start c .args .bytes))
 
-abbrev memory : tie.After-check-use → Memory
+abbrev memory : tie.After-check-object → Memory
 memory c = memoryOf (now (start c .args .permanent)) (now (start c .args .scratch)) (now (start c .args .map))
 
--- what check_use answered: an object
+-- what check_object answered: an object
 used : (c : tie.After-known-told2) → (useStatus (state (c .before .before .before)) (memory (c .before .before .before)) (start (c .before .before .before) .args .t) (start (c .before .before .before) .args .p) 0 ≡ 0) × (c .before .o .given .0 .0 ≡ objectOf (state (c .before .before .before)) (memory (c .before .before .before)) (start (c .before .before .before) .args .p))
-used c = spot-in _ (sym (c .before .o .given .1) ∙ c .before .before .before .check-use .ensures)
+used c = spot-in _ (sym (c .before .o .given .1) ∙ c .before .before .before .check-object .ensures)
 
-check-use-requires : tie.Need-check-use-requires
-check-use-requires c κs = search needs
+check-object-requires : tie.Need-check-object-requires
+check-object-requires c κs = search needs
 
 enum-known-n : tie.Need-enum-known-n
 enum-known-n c = search needs
@@ -42,7 +42,7 @@ returns c =
 
 returns-2 : tie.Need-returns-2
 returns-2 c =
-    let e = spot-refused _ (sym (c .before .n .given .1) ∙ c .before .before .before .check-use .ensures) in
+    let e = spot-refused _ (sym (c .before .n .given .1) ∙ c .before .before .before .check-object .ensures) in
     refused-spot _ (e .1) (slot-not-used _ _ _ _ _ (e .0) (e .1))
 
 returns-3 : tie.Need-returns-3
@@ -52,4 +52,4 @@ returns-3 c =
 
 pub check-slot-spec : {M : Type 1} → statement M
 check-slot-spec =
-    tie.close (tie.spec check-use-requires enum-known-n enum-known-o returns returns-2 returns-3)
+    tie.close (tie.spec check-object-requires enum-known-n enum-known-o returns returns-2 returns-3)

@@ -11,7 +11,6 @@ use Prim.Native.Nat.{ℕ}
 use Rattle.layout.specs.Handle.{areaOf}
 use Rattle.layout.specs.HandleLaws.{area-lt}
 use Rattle.model.specs.References.{mayRefer, slotStatus}
-use Rattle.model.proofs.Accepted.{SlotOk, slot-ok}
 use Rattle.objects.specs.declared.find.Object.{Object}
 use Rattle.objects.specs.Found.{objectOf}
 use Rattle.access.specs.Spots.{in-spot, refused-spot, spot-in, spot-refused}
@@ -36,9 +35,6 @@ past c = c .before .before .before
 slot : (c : tie.After-known-told2) → (slotStatus (state (past c)) (memory (past c)) (start (past c) .args .t) (start (past c) .args .p) (start (past c) .args .q) 0 ≡ 0) × (c .before .o .given .0 .0 ≡ objectOf (state (past c)) (memory (past c)) (start (past c) .args .p))
 slot c = spot-in _ (sym (c .before .o .given .1) ∙ past c .check-slot .ensures)
 
-slot-is : (c : tie.After-known-told2) → SlotOk (state (past c)) (memory (past c)) (start (past c) .args .t) (start (past c) .args .p) (start (past c) .args .q)
-slot-is c = slot-ok (state (past c)) (memory (past c)) (start (past c) .args .t) (start (past c) .args .p) (start (past c) .args .q) 0 (slot c .0) .0
-
 area : (c : tie.After-known-told2) → c .before .o .given .0 .0 .area ≡ areaOf (start (past c) .args .p)
 area c = ap (λ (x : Object). x .area) (slot c .1) ∙ object-area (state (past c)) (memory (past c)) (start (past c) .args .p)
 
@@ -58,7 +54,7 @@ enum-known-o : tie.Need-enum-known-o
 enum-known-o c = search needs
 
 check-reference-requires : tie.Need-check-reference-requires
-check-reference-requires c κs = (start (past c) .pre, slot-is c .used .called .thread, slot-is c .used .called .supplied)
+check-reference-requires c κs = (start (past c) .pre .0, start (past c) .pre .1 .thread, start (past c) .pre .1 .supplied)
 
 area-requires : tie.Need-area-requires
 area-requires c κs = search needs
@@ -66,7 +62,7 @@ area-requires c κs = search needs
 may-refer-requires : tie.Need-may-refer-requires
 may-refer-requires c κs =
     let d = c .before .before in
-    (start (past d) .pre, rw (area d) (area-lt (start (past d) .args .p)), rw (c .area .ensures) (area-lt (start (past d) .args .target)))
+    (start (past d) .pre .0, rw (area d) (area-lt (start (past d) .args .p)), rw (c .area .ensures) (area-lt (start (past d) .args .target)))
 
 returns : tie.Need-returns
 returns c =

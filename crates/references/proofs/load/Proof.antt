@@ -1,4 +1,4 @@
--- `load` meets its contract: refused by the slot, by the loaded word, or the word.
+-- `load` meets its contract: refused by the caller, by the slot, by the loaded word, or the word.
 use mathlib.Core.Path.{_≡_, refl, sym, _∙_}
 use borrow.Author.Needs.{needs}
 use denote.Ref.{now}
@@ -8,33 +8,41 @@ use Rattle.tables.specs.Contract.{memoryOf}
 use native.Mathlib.Omega.{arith}
 use Rattle.model.specs.References.{slotStatus, loadStatus, wordAfter}
 use Rattle.model.specs.Calls as calls
-use Rattle.model.proofs.Accepted.{SlotOk, slot-ok}
-use Rattle.threads.specs.Outcomes.{told-refused, told-accepted}
+use Rattle.model.proofs.Accepted.{Admitted, SlotOk, slot-ok}
+use Rattle.threads.specs.Outcomes.{caller-admitted, told-refused, told-accepted}
 use Rattle.objects.specs.Found.{objectOf}
 use Rattle.access.specs.Spots.{spot-in, spot-refused}
-use Rattle.references.specs.Statuses.{load-no-slot, load-slot}
+use Rattle.references.specs.Statuses.{slot-not-used, load-no-slot, load-slot}
+use Rattle.access.specs.Statuses.{use-not-called}
 use Rattle.access.specs.Effects.{Room, slot-room, word-is}
 use Rattle.references.proofs.load.Statement.{statement}
 use Rattle.references.proofs.load.Tie as tie
 
-abbrev start : tie.After-check-slot → tie.Start
-start c = c .before .before .before .before
+-- past refusals 1 and 2: the entry, the state, the memory and the call
+abbrev start : tie.Else1 → tie.Start
+start c = c .before .before .before .before .before
 
-abbrev state : tie.After-check-slot → State
+abbrev state : tie.Else1 → State
 state c = stateOf (now (start c .args .words)) (now (start c .args .bytes))
 
-abbrev memory : tie.After-check-slot → Memory
+abbrev memory : tie.Else1 → Memory
 memory c = memoryOf (now (start c .args .permanent)) (now (start c .args .scratch)) (now (start c .args .map))
 
-abbrev call : tie.After-check-slot → calls.Call
+abbrev call : tie.Else1 → calls.Call
 call c = calls.load (start c .args .t) (start c .args .p) (start c .args .q)
 
+called : (c : tie.Else1) → Admitted (state c) (memory c) (start c .args .t)
+called c = caller-admitted (state c) (memory c) (start c .args .t) (c .before .check-caller .ensures) (c .if1 .left)
+
 -- what check_slot answered: an object, which has the slot
-abbrev past : tie.After-known-told2 → tie.After-check-slot
-past c = c .before .before .before
+abbrev answer : tie.After-known-told2 → tie.After-check-slot
+answer c = c .before .before .before
+
+abbrev past : tie.After-known-told2 → tie.Else1
+past c = answer c .before
 
 slot : (c : tie.After-known-told2) → (slotStatus (state (past c)) (memory (past c)) (start (past c) .args .t) (start (past c) .args .p) (start (past c) .args .q) 0 ≡ 0) × (c .before .o .given .0 .0 ≡ objectOf (state (past c)) (memory (past c)) (start (past c) .args .p))
-slot c = spot-in _ (sym (c .before .o .given .1) ∙ past c .check-slot .ensures)
+slot c = spot-in _ (sym (c .before .o .given .1) ∙ answer c .check-slot .ensures)
 
 slot-is : (c : tie.After-known-told2) → SlotOk (state (past c)) (memory (past c)) (start (past c) .args .t) (start (past c) .args .p) (start (past c) .args .q)
 slot-is c = slot-ok (state (past c)) (memory (past c)) (start (past c) .args .t) (start (past c) .args .p) (start (past c) .args .q) 0 (slot c .0) .0
@@ -53,8 +61,17 @@ status c =
     let d = past (c .before .before .before) in
     load-slot (state d) (memory d) (start d .args .t) (start d .args .p) (start d .args .q) (slot (c .before .before .before) .0) (word (c .before)) (c .check-reference .ensures)
 
+check-caller-requires : tie.Need-check-caller-requires
+check-caller-requires c κs = search needs
+
+returns : tie.Need-returns
+returns c =
+    let h = c .if1 .taken in
+    let e = load-no-slot _ _ _ _ _ (slot-not-used _ _ _ _ _ (use-not-called _ _ _ _ (c .before .check-caller .ensures) h) h) h in
+    told-refused _ _ (calls.load _ _ _) e h
+
 check-slot-requires : tie.Need-check-slot-requires
-check-slot-requires c κs = search needs
+check-slot-requires c κs = (start c .pre, called c)
 
 enum-known-status : tie.Need-enum-known-status
 enum-known-status c = search needs
@@ -73,29 +90,32 @@ word-at-requires c κs = room (c .before) .inside
 
 check-reference-requires : tie.Need-check-reference-requires
 check-reference-requires c κs =
-    let k = slot-is (c .before .before) in
-    (start (past (c .before .before)) .pre, k .used .called .thread, k .used .called .supplied)
-
-returns : tie.Need-returns
-returns c =
-    let d = past (c .before .before .before .before) in
-    told-refused (state d) (memory d) (call d) (status (c .before)) (c .if1 .taken)
+    let d = past (c .before .before) in
+    (start d .pre, called d .thread, called d .supplied)
 
 returns-2 : tie.Need-returns-2
 returns-2 c =
-    let d = c .before .before .before in
-    let e = spot-refused _ (sym (c .before .status .given .1) ∙ d .check-slot .ensures) in
-    told-refused (state d) (memory d) (call d) (load-no-slot _ _ _ _ _ (e .0) (e .1)) (e .1)
+    let d = past (c .before .before .before .before) in
+    told-refused (state d) (memory d) (call d) (status (c .before)) (c .if2 .taken)
 
 returns-3 : tie.Need-returns-3
 returns-3 c =
+    let a = c .before .before .before in
+    let d = a .before in
+    let e = spot-refused _ (sym (c .before .status .given .1) ∙ a .check-slot .ensures) in
+    told-refused (state d) (memory d) (call d) (load-no-slot _ _ _ _ _ (e .0) (e .1)) (e .1)
+
+returns-4 : tie.Need-returns-4
+returns-4 c =
     let d = past (c .before .before .before .before) in
-    told-accepted (state d) (memory d) (call d) (status (c .before)) (c .if1 .left) (word (c .before .before)) refl
+    told-accepted (state d) (memory d) (call d) (status (c .before)) (c .if2 .left) (word (c .before .before)) refl
 
 pub load-spec : {M : Type 1} → statement M
 load-spec =
     tie.close
     (tie.spec
+    check-caller-requires
+    returns
     check-slot-requires
     enum-known-status
     enum-known-o
@@ -103,6 +123,6 @@ load-spec =
     add-from-2
     word-at-requires
     check-reference-requires
-    returns
     returns-2
-    returns-3)
+    returns-3
+    returns-4)

@@ -8,40 +8,66 @@ use Rattle.tables.specs.Contract.{memoryOf}
 use native.Mathlib.Omega.{arith}
 use Rattle.model.specs.References.{storeStatus}
 use Rattle.model.specs.Calls as calls
-use Rattle.model.proofs.Accepted.{store-ok}
-use Rattle.threads.specs.Outcomes.{told-refused, told-accepted, written-refused, written-accepted}
+use Rattle.model.proofs.Accepted.{Admitted, store-ok}
+use Rattle.threads.specs.Outcomes.{caller-admitted, told-refused, told-accepted, written-refused, written-accepted}
 use Rattle.objects.specs.Found.{objectOf}
 use Rattle.access.specs.Spots.{spot-in, spot-refused}
+use Rattle.access.specs.Statuses.{use-not-called}
 use Rattle.access.specs.Effects.{Room, slot-room, slot-stored}
+use Rattle.references.specs.Statuses.{slot-not-used, store-no-slot}
 use Rattle.references.proofs.store.Statement.{statement}
 use Rattle.references.proofs.store.Tie as tie
 
-abbrev start : tie.After-check-store → tie.Start
-start c = c .before .before .before .before .before .before
+-- past refusals 1 and 2: the entry, the state, the memory and the call
+abbrev start : tie.Else1 → tie.Start
+start c = c .before .before .before .before .before .before .before
 
-abbrev state : tie.After-check-store → State
+abbrev state : tie.Else1 → State
 state c = stateOf (now (start c .args .words)) (now (start c .args .bytes))
 
-abbrev memory : tie.After-check-store → Memory
+abbrev memory : tie.Else1 → Memory
 memory c = memoryOf (now (start c .args .permanent)) (now (start c .args .scratch)) (now (start c .args .map))
 
-abbrev call : tie.After-check-store → calls.Call
+abbrev call : tie.Else1 → calls.Call
 call c = calls.store (start c .args .t) (start c .args .p) (start c .args .q) (start c .args .target)
 
+called : (c : tie.Else1) → Admitted (state c) (memory c) (start c .args .t)
+called c = caller-admitted (state c) (memory c) (start c .args .t) (c .before .check-caller .ensures) (c .if1 .left)
+
 -- what the checks answered: an object, which has the word
-abbrev past : tie.After-known-told2 → tie.After-check-store
-past c = c .before .before .before
+abbrev answer : tie.After-known-told2 → tie.After-check-store
+answer c = c .before .before .before
+
+abbrev past : tie.After-known-told2 → tie.Else1
+past c = answer c .before .before .before
 
 spot : (c : tie.After-known-told2) → (storeStatus (state (past c)) (memory (past c)) (start (past c) .args .t) (start (past c) .args .p) (start (past c) .args .q) (start (past c) .args .target) ≡ 0) × (c .before .o .given .0 .0 ≡ objectOf (state (past c)) (memory (past c)) (start (past c) .args .p))
-spot c = spot-in _ (sym (c .before .o .given .1) ∙ past c .check-store .ensures)
+spot c = spot-in _ (sym (c .before .o .given .1) ∙ answer c .check-store .ensures)
 
 room : (c : tie.After-known-told2) → Room (memory (past c)) (c .before .o .given .0 .0) (start (past c) .args .q)
 room c =
     let i = start (past c) .args in
     slot-room (state (past c)) (memory (past c)) (i .p) _ (spot c .1) (start (past c) .pre .good) (i .t) (i .q) (store-ok (state (past c)) (memory (past c)) (i .t) (i .p) (i .q) (i .target) (spot c .0) .at)
 
+check-caller-requires : tie.Need-check-caller-requires
+check-caller-requires c κs = search needs
+
+same-length : tie.Need-same-length
+same-length c = search needs
+
+same-length-2 : tie.Need-same-length-2
+same-length-2 c = search needs
+
+returns : tie.Need-returns
+returns c =
+    let h = c .if1 .taken in
+    let e = store-no-slot _ _ _ _ _ _ (slot-not-used _ _ _ _ _ (use-not-called _ _ _ _ (c .before .check-caller .ensures) h) h) h in
+    (told-refused _ _ (calls.store _ _ _ _) e h, written-refused _ _ (calls.store _ _ _ _) e h)
+
 check-store-requires : tie.Need-check-store-requires
-check-store-requires c κs = search needs
+check-store-requires c κs =
+    let d = c .before .before in
+    (start d .pre, called d)
 
 enum-known-status : tie.Need-enum-known-status
 enum-known-status c = search needs
@@ -58,20 +84,6 @@ add-at-2 c = omega (arith, room (c .before) .low)
 put-word-requires : tie.Need-put-word-requires
 put-word-requires c κs = room (c .before .before .before) .inside
 
-same-length : tie.Need-same-length
-same-length c = search needs
-
-same-length-2 : tie.Need-same-length-2
-same-length-2 c = search needs
-
-returns : tie.Need-returns
-returns c =
-    let d = c .before .before .before in
-    let e = spot-refused _ (sym (c .before .status .given .1) ∙ d .check-store .ensures) in (
-      told-refused (state d) (memory d) (call d) (e .0) (e .1),
-      written-refused (state d) (memory d) (call d) (e .0) (e .1),
-    )
-
 same-length-3 : tie.Need-same-length-3
 same-length-3 c = search needs
 
@@ -80,6 +92,21 @@ same-length-4 c = search needs
 
 returns-2 : tie.Need-returns-2
 returns-2 c =
+    let a = c .before .before .before in
+    let d = a .before .before .before in
+    let e = spot-refused _ (sym (c .before .status .given .1) ∙ a .check-store .ensures) in (
+      told-refused (state d) (memory d) (call d) (e .0) (e .1),
+      written-refused (state d) (memory d) (call d) (e .0) (e .1),
+    )
+
+same-length-5 : tie.Need-same-length-5
+same-length-5 c = search needs
+
+same-length-6 : tie.Need-same-length-6
+same-length-6 c = search needs
+
+returns-3 : tie.Need-returns-3
+returns-3 c =
     let k = c .before .before .before .before .before .before .before .before in
     let d = past k in (
       told-accepted (state d) (memory d) (call d) (sym (spot k .0)) refl refl refl,
@@ -91,15 +118,19 @@ pub store-spec : {M : Type 1} → statement M
 store-spec =
     tie.close
     (tie.spec
+    check-caller-requires
+    same-length
+    same-length-2
+    returns
     check-store-requires
     enum-known-status
     enum-known-o
     add-at
     add-at-2
     put-word-requires
-    same-length
-    same-length-2
-    returns
     same-length-3
     same-length-4
-    returns-2)
+    returns-2
+    same-length-5
+    same-length-6
+    returns-3)

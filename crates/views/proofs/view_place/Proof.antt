@@ -1,4 +1,4 @@
--- `view_place` meets its contract: the place of each case of what check_use answers.
+-- `view_place` meets its contract: the place of each case of what check_view answers.
 use mathlib.Core.Path.{_≡_, sym, _∙_}
 use borrow.Author.Needs.{needs}
 use denote.Ref.{now}
@@ -14,27 +14,27 @@ use Rattle.views.specs.Parts.{part-refused, part-accepted, object-in}
 use Rattle.views.proofs.view_place.Statement.{statement}
 use Rattle.views.proofs.view_place.Tie as tie
 
-abbrev start : tie.After-check-use → tie.Start
+abbrev start : tie.After-check-view → tie.Start
 start c = c .before .before .before .before
 
-abbrev state : tie.After-check-use → State
+abbrev state : tie.After-check-view → State
 state c = stateOf (now (start c .args .words)) (now (start c .args .bytes))
 
-abbrev memory : tie.After-check-use → Memory
+abbrev memory : tie.After-check-view → Memory
 memory c = memoryOf (now (start c .args .permanent)) (now (start c .args .scratch)) (now (start c .args .map))
 
--- what check_use answered: an object
-abbrev past : tie.After-o → tie.After-check-use
+-- what check_view answered: an object
+abbrev past : tie.After-o → tie.After-check-view
 past c = c .before .before
 
 used : (c : tie.After-o) → (useStatus (state (past c)) (memory (past c)) (start (past c) .args .t) (start (past c) .args .p) 0 ≡ 0) × (c .o .given .0 .0 ≡ objectOf (state (past c)) (memory (past c)) (start (past c) .args .p))
-used c = spot-in _ (sym (c .o .given .1) ∙ past c .check-use .ensures)
+used c = spot-in _ (sym (c .o .given .1) ∙ past c .check-view .ensures)
 
 lies : (c : tie.After-o) → Lies (memory (past c)) (c .o .given .0 .0)
 lies c = object-in (state (past c)) (memory (past c)) (start (past c) .args .t) (start (past c) .args .p) (used c .0) _ (used c .1) (start (past c) .pre .good)
 
-check-use-requires : tie.Need-check-use-requires
-check-use-requires c κs = search needs
+check-view-requires : tie.Need-check-view-requires
+check-view-requires c κs = search needs
 
 enum-known-n : tie.Need-enum-known-n
 enum-known-n c = search needs
@@ -54,7 +54,7 @@ add-t15 c = omega (arith, lies (c .before .before .before) .low)
 returns : tie.Need-returns
 returns c =
     let d = c .before .before .before in
-    let e = spot-refused _ (sym (c .before .n .given .1) ∙ d .check-use .ensures) in
+    let e = spot-refused _ (sym (c .before .n .given .1) ∙ d .check-view .ensures) in
     part-refused (state d) (memory d) (start d .args .t) (start d .args .p) (e .0) (e .1)
 
 returns-2 : tie.Need-returns-2
@@ -67,7 +67,7 @@ pub view-place-spec : {M : Type 1} → statement M
 view-place-spec =
     tie.close
     (tie.spec
-    check-use-requires
+    check-view-requires
     enum-known-n
     enum-known-o
     store-of-requires
