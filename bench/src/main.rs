@@ -1,17 +1,20 @@
 //! Measures the exported functions beside plain Rust and writes the report in Markdown.
 //!
-//! `bench PLOT.svg` prints the report and writes the plot. `bench count ROW SIDE CALLS` only makes the
-//! calls of a row on one side, for a tool that counts instructions; `bench rows` names the rows.
+//! `bench PLOT.svg` prints the report and writes the plot; it measures by running `bench times` again and
+//! again. `bench count ROW SIDE CALLS` only makes the calls of a row on one side, for a tool that counts
+//! instructions; `bench rows` names the rows.
 
 mod agree;
 mod machine;
 mod measure;
 mod plot;
 mod report;
+mod runs;
 mod scenes;
 
 use machine::{Core, InLine, Machine, Plain, Scan, Walk};
 use measure::Loop;
+use runs::{Spread, Times};
 use scenes::{Nest, Room};
 
 /// How deep the calls on objects are nested, and how far above their target is.
@@ -19,6 +22,8 @@ const DEPTH: u64 = 8;
 const DISTANCE: u64 = 4;
 /// Those of the reference check: from the scope itself to the outermost of 32.
 const DISTANCES: [u64; 7] = [0, 1, 2, 4, 8, 16, 31];
+/// Runs of the whole measurement, each in a process of its own.
+const RUNS: usize = 7;
 
 /// A row of the first table.
 struct Row {
@@ -60,30 +65,18 @@ fn row_loop<M: Machine + 'static>(row: usize) -> Loop {
     }
 }
 
-fn measure_rows() -> Vec<report::Figure> {
-    let places = 0..ROWS.len();
-    let loops = places.flat_map(|place| {
+/// The times of this process: those of the rows, then those of the reference check at nesting distances on
+/// a stack of 32 scopes.
+fn times() -> Times {
+    let rows = (0..ROWS.len()).flat_map(|row| {
         [
-            row_loop::<Core>(place),
-            row_loop::<Plain>(place),
-            row_loop::<InLine>(place),
+            row_loop::<Core>(row),
+            row_loop::<Plain>(row),
+            row_loop::<InLine>(row),
         ]
     });
-    let best = measure::best(&mut loops.collect::<Vec<Loop>>());
-    let pairs = ROWS.iter().zip(best.chunks(3));
-    let figures = pairs.map(|(row, best)| report::Figure {
-        name: row.name,
-        limit: row.limit,
-        core: best[0],
-        plain: best[1],
-        in_line: best[2],
-    });
-    figures.collect()
-}
-
-/// The reference check at nesting distances, on a stack of 32 scopes.
-fn measure_checks() -> Vec<report::Check> {
-    let loops = DISTANCES.iter().flat_map(|&distance| {
+    let rows = measure::best(&mut rows.collect::<Vec<Loop>>());
+    let checks = DISTANCES.iter().flat_map(|&distance| {
         [
             store_loop::<Core>(distance),
             store_loop::<Plain>(distance),
@@ -91,16 +84,38 @@ fn measure_checks() -> Vec<report::Check> {
             store_loop::<Scan>(distance),
         ]
     });
-    let best = measure::best(&mut loops.collect::<Vec<Loop>>());
-    let rows = DISTANCES.iter().zip(best.chunks(4));
-    let checks = rows.map(|(&distance, best)| report::Check {
-        distance,
-        core: best[0],
-        display: best[1],
-        walk: best[2],
-        scan: best[3],
-    });
-    checks.collect()
+    let checks = measure::best(&mut checks.collect::<Vec<Loop>>());
+    let lines = rows.chunks(3).chain(checks.chunks(4));
+    lines.map(<[f64]>::to_vec).collect()
+}
+
+fn figures(runs: &[Times]) -> Vec<report::Figure> {
+    let sides = |line: &Vec<f64>| report::Sides {
+        core: line[0],
+        plain: line[1],
+        in_line: line[2],
+    };
+    let figure = |(place, row): (usize, &Row)| report::Figure {
+        name: row.name,
+        limit: row.limit,
+        runs: runs.iter().map(|times| sides(&times[place])).collect(),
+    };
+    ROWS.iter().enumerate().map(figure).collect()
+}
+
+fn checks(runs: &[Times]) -> Vec<report::Check> {
+    let check = |(place, &distance): (usize, &u64)| {
+        let line = ROWS.len() + place;
+        let middle = |side: usize| Spread::of(runs.iter().map(|times| times[line][side])).middle;
+        report::Check {
+            distance,
+            core: middle(0),
+            display: middle(1),
+            walk: middle(2),
+            scan: middle(3),
+        }
+    };
+    DISTANCES.iter().enumerate().map(check).collect()
 }
 
 fn store_loop<M: Machine + 'static>(distance: u64) -> Loop {
@@ -132,6 +147,10 @@ fn main() {
             ROWS.iter().for_each(|row| println!("{}", row.name));
             Some(())
         }
+        Some((word, [])) if word == "times" => {
+            runs::print(&times());
+            Some(())
+        }
         Some((plot, [])) => {
             measure_all(plot);
             Some(())
@@ -139,15 +158,17 @@ fn main() {
         _ => None,
     };
     if done.is_none() {
-        eprintln!("usage: bench PLOT.svg, bench rows, or bench count ROW core|plain|in_line CALLS");
+        eprintln!(
+            "usage: bench PLOT.svg, bench times, bench rows, or bench count ROW core|plain|in_line CALLS"
+        );
         std::process::exit(2);
     }
 }
 
 fn measure_all(plot: &str) {
     agree::check();
-    let figures = measure_rows();
-    let checks = measure_checks();
-    report::print(&figures, &checks);
+    let runs = runs::repeat(RUNS);
+    let checks = checks(&runs);
+    report::print(&figures(&runs), &checks);
     std::fs::write(plot, plot::svg(&checks)).expect("the plot can be written");
 }

@@ -1,12 +1,24 @@
 //! The report in Markdown: ratios first.
 
-/// A call on each side, nanoseconds, and the ratio that is to be reached.
+use crate::runs::Spread;
+
+/// A call, and the ratio that is to be reached: nanoseconds on each side, a line for each run.
 pub struct Figure {
     pub name: &'static str,
     pub limit: f64,
+    pub runs: Vec<Sides>,
+}
+
+pub struct Sides {
     pub core: f64,
     pub plain: f64,
     pub in_line: f64,
+}
+
+impl Figure {
+    fn spread(&self, number: impl Fn(&Sides) -> f64) -> Spread {
+        Spread::of(self.runs.iter().map(number))
+    }
 }
 
 /// A store at a nesting distance, nanoseconds: the exported one, and plain Rust by the three rules.
@@ -23,25 +35,28 @@ pub fn print(figures: &[Figure], checks: &[Check]) {
     println!();
     print_checks(checks);
     println!();
-    println!("{}", spread(checks));
+    println!("{}", flatness(checks));
 }
 
 fn print_figures(figures: &[Figure]) {
     println!(
-        "| call | ratio | ratio to all in line | to reach | exported, ns | plain Rust, ns \
-         | all in line, ns |"
+        "| call | ratio | least | most | to reach | ratio to all in line | exported, ns \
+         | plain Rust, ns | all in line, ns |"
     );
-    println!("|---|---|---|---|---|---|---|");
+    println!("|---|---|---|---|---|---|---|---|---|");
     for figure in figures {
+        let ratio = figure.spread(|run| run.core / run.plain);
         println!(
-            "| {} | {:.2} | {:.2} | {:.1} | {:.2} | {:.2} | {:.2} |",
+            "| {} | {:.2} | {:.2} | {:.2} | {:.1} | {:.2} | {:.2} | {:.2} | {:.2} |",
             figure.name,
-            figure.core / figure.plain,
-            figure.core / figure.in_line,
+            ratio.middle,
+            ratio.least,
+            ratio.most,
             figure.limit,
-            figure.core,
-            figure.plain,
-            figure.in_line
+            figure.spread(|run| run.core / run.in_line).middle,
+            figure.spread(|run| run.core).middle,
+            figure.spread(|run| run.plain).middle,
+            figure.spread(|run| run.in_line).middle
         );
     }
 }
@@ -68,10 +83,9 @@ fn print_checks(checks: &[Check]) {
 }
 
 /// How far the exported store's time lies apart over distances 1 to 31.
-fn spread(checks: &[Check]) -> String {
-    let times = checks.iter().filter(|c| c.distance > 0).map(|c| c.core);
-    let low = times.clone().fold(f64::MAX, f64::min);
-    let high = times.fold(0.0, f64::max);
-    let percent = (high / low - 1.0) * 100.0;
+fn flatness(checks: &[Check]) -> String {
+    let times = checks.iter().filter(|check| check.distance > 0);
+    let Spread { least, most, .. } = Spread::of(times.map(|check| check.core));
+    let percent = (most / least - 1.0) * 100.0;
     format!("From distance 1 to 31 the exported store's times lie within {percent:.1} %.")
 }
