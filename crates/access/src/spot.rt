@@ -2,6 +2,8 @@
 use objects::Found;
 use objects::Object;
 use rights::Right;
+use tables::Bytes;
+use tables::Words;
 ghost use mathlib.Core.Path.{_≡_};
 ghost use Prim.Native.Nat.{_<_};
 ghost use lib.ListN.{length, set};
@@ -23,7 +25,7 @@ pub enum Spot {
 }
 
 // Whether a thread may use an object of an area.
-fn may_use(words: &[u64; 548], bytes: &[u8; 3072], t: usize, area: u64) -> bool
+fn may_use(words: &Words, bytes: &Bytes, t: usize, area: u64) -> bool
     requires { ⌜ t < 16 ⌝ }
     ensures { λ r. ⌜ r ≡ hasRight (stateOf (now (words .entry)) (now (bytes .entry))) t Use area ⌝ }
 {
@@ -34,8 +36,8 @@ fn may_use(words: &[u64; 548], bytes: &[u8; 3072], t: usize, area: u64) -> bool
 // Refusals 13 and 5, for a call that has passed 1 and 2. Without those two it is small enough to be
 // inlined in every op; a call would hand the buffers over through memory.
 pub fn check_object(
-    words: &[u64; 548],
-    bytes: &[u8; 3072],
+    words: &Words,
+    bytes: &Bytes,
     permanent: &[u64],
     scratch: &[u64],
     map: &[u64],

@@ -2,6 +2,8 @@
 use crate::spot;
 use crate::spot::Spot;
 use layout::stack::Answer;
+use tables::Bytes;
+use tables::Words;
 ghost use mathlib.Core.Path.{_≡_};
 ghost use Rattle.model.specs.Data.{dataStatus};
 ghost use Rattle.model.specs.Calls as calls;
@@ -13,8 +15,8 @@ ghost use Rattle.access.specs.Spots.{spotOf};
 
 // Refusals 13, 5 and 14, for a call that has passed 1 and 2: an object and one of its data words.
 fn check_data(
-    words: &[u64; 548],
-    bytes: &[u8; 3072],
+    words: &Words,
+    bytes: &Bytes,
     permanent: &[u64],
     scratch: &[u64],
     map: &[u64],
@@ -38,8 +40,8 @@ fn check_data(
 
 // Op 09: object p, data word q, the new word; the value is 0.
 pub fn write(
-    words: &[u64; 548],
-    bytes: &[u8; 3072],
+    words: &Words,
+    bytes: &Bytes,
     permanent: &mut [u64],
     scratch: &mut [u64],
     map: &[u64],
@@ -72,8 +74,8 @@ pub fn write(
 
 // Op 0a: object p, data word q; the value is the word.
 pub fn read(
-    words: &[u64; 548],
-    bytes: &[u8; 3072],
+    words: &Words,
+    bytes: &Bytes,
     permanent: &[u64],
     scratch: &[u64],
     map: &[u64],

@@ -3,6 +3,8 @@ use layout::handle;
 use layout::stack::Answer;
 use model::Area;
 use rights::Right;
+use tables::Bytes;
+use tables::Words;
 ghost use mathlib.Core.Path.{_≡_};
 ghost use Prim.Native.Nat.{_+_, _*_, _<_, _≤_};
 ghost use lib.ListN.{length};
@@ -60,8 +62,8 @@ fn lay_object(
 
 // Refusals 1, 2, 5 and 12. No sum of the fields is taken, so none can wrap.
 fn check_allocate(
-    words: &[u64; 548],
-    bytes: &[u8; 3072],
+    words: &Words,
+    bytes: &Bytes,
     permanent: &[u64],
     scratch: &[u64],
     map: &[u64],
@@ -97,8 +99,8 @@ fn check_allocate(
 // its handle. The area is written first: after a write to a buffer the compiler could not tell that
 // its other words are as they were read, and would write them too.
 fn apply_allocate(
-    words: &mut [u64; 548],
-    bytes: &[u8; 3072],
+    words: &mut Words,
+    bytes: &Bytes,
     permanent: &mut [u64],
     scratch: &mut [u64],
     map: &mut [u64],
@@ -131,8 +133,8 @@ fn apply_allocate(
 
 // Op 06: slots and data words of the new object; the value is its handle.
 pub fn allocate(
-    words: &mut [u64; 548],
-    bytes: &[u8; 3072],
+    words: &mut Words,
+    bytes: &Bytes,
     permanent: &mut [u64],
     scratch: &mut [u64],
     map: &mut [u64],

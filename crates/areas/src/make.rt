@@ -1,6 +1,8 @@
 // Op 03: a scope is made.
 use layout::stack::Answer;
 use model::Area;
+use tables::Bytes;
+use tables::Words;
 ghost use mathlib.Core.Path.{_≡_};
 ghost use mathlib.Core.Bool.{_||_};
 ghost use Prim.Native.Nat.{_+_, _<_, _≤_};
@@ -31,8 +33,8 @@ fn lacks(left: u64, r: u64) -> bool
 }
 
 fn check_make(
-    words: &[u64; 548],
-    bytes: &[u8; 3072],
+    words: &Words,
+    bytes: &Bytes,
     permanent: &[u64],
     scratch: &[u64],
     map: &[u64],
@@ -76,7 +78,7 @@ fn made(x: Area, start: u64, size: u64) -> Area
 }
 
 // Scope q takes the next r unused scratch words.
-fn apply_make(words: &mut [u64; 548], bytes: &[u8; 3072], q: usize, r: u64)
+fn apply_make(words: &mut Words, bytes: &Bytes, q: usize, r: u64)
     requires { ⌜ Ready (now words) (now bytes) × (q < 64) × ((stateOf (now words) (now bytes)) .taken + r ≤ (stateOf (now words) (now bytes)) .lengths .scratch) ⌝ }
     ensures { λ u. ⌜ Holds (now (words .exit)) (now (bytes .entry)) (makeState (stateOf (now (words .entry)) (now (bytes .entry))) q r) ⌝ }
 {
@@ -87,8 +89,8 @@ fn apply_make(words: &mut [u64; 548], bytes: &[u8; 3072], q: usize, r: u64)
 }
 
 pub fn make(
-    words: &mut [u64; 548],
-    bytes: &[u8; 3072],
+    words: &mut Words,
+    bytes: &Bytes,
     permanent: &[u64],
     scratch: &[u64],
     map: &[u64],

@@ -5,6 +5,8 @@ use layout::stack::Answer;
 use layout::stack::Place;
 use model::Area;
 use rights::Right;
+use tables::Bytes;
+use tables::Words;
 ghost use mathlib.Core.Path.{_≡_};
 ghost use Prim.Native.Nat.{_<_, _≤_};
 ghost use Rattle.layout.specs.Choice.{pick};
@@ -51,7 +53,7 @@ fn check_entry(kind: u64, len: u64, inner: u64, x: Area, q: u64) -> u64
 }
 
 // The same, read from the tables; inner is the thread's innermost scope.
-fn check_there(words: &[u64; 548], bytes: &[u8; 3072], t: usize, q: u64, inner: u8) -> u64
+fn check_there(words: &Words, bytes: &Bytes, t: usize, q: u64, inner: u8) -> u64
     requires { ⌜ (t < 16) × (q < 64) ⌝ }
     ensures { λ n. ⌜ n ≡ entryStatus (threadAt (stateOf (now (words .entry)) (now (bytes .entry))) t .kind) (threadAt (stateOf (now (words .entry)) (now (bytes .entry))) t .len) inner (areaAt (stateOf (now (words .entry)) (now (bytes .entry))) q) q ⌝ }
 {
@@ -91,7 +93,7 @@ fn opened_area(x: Area, parent: u64, depth: Depth) -> Area
 
 // The display of scope q, which opens below p: that of p, with q last. The copied row is put first and
 // its one new entry behind it: read back as a whole, it would have to wait for that byte.
-fn show(bytes: &mut [u8; 3072], q: usize, p: usize, depth: Depth)
+fn show(bytes: &mut Bytes, q: usize, p: usize, depth: Depth)
     requires { ⌜ (q < 64) × (p < 64) × (depth .0 < 32) ⌝ }
     ensures { λ u. ⌜ now (bytes .exit) ≡ putRow (now (bytes .entry)) q (extendedRow (rowOf (now (bytes .entry)) p) (depth .0) q) ⌝ }
 {
@@ -104,7 +106,7 @@ fn show(bytes: &mut [u8; 3072], q: usize, p: usize, depth: Depth)
 
 // Area q is entered where p is the innermost scope; its generation after that. The area is written before
 // the display: the compiler then sees that its start and size are as they were read.
-fn enter_area(words: &mut [u64; 548], bytes: &mut [u8; 3072], q: usize, p: usize) -> u64
+fn enter_area(words: &mut Words, bytes: &mut Bytes, q: usize, p: usize) -> u64
     requires { ⌜ Sized (now words) (now bytes) × Openable (stateOf (now words) (now bytes)) q p ⌝ }
     ensures { λ r. ⌜ r ≡ enterValue (stateOf (now (words .entry)) (now (bytes .entry))) q ⌝ }
     ensures { λ r. ⌜ Holds (now (words .exit)) (now (bytes .exit)) (enteredArea (stateOf (now (words .entry)) (now (bytes .entry))) q p) ⌝ }
@@ -137,7 +139,7 @@ fn inner_after(q: u8, p: u8) -> u8
 }
 
 // Area q goes on top of a stack, and beside it the innermost scope as of that entry.
-fn push(words: &mut [u64; 548], bytes: &mut [u8; 3072], t: usize, q: u8, inner: u8)
+fn push(words: &mut Words, bytes: &mut Bytes, t: usize, q: u8, inner: u8)
     requires { ⌜ Sized (now words) (now bytes) × (t < 16) × (threadAt (stateOf (now words) (now bytes)) t .len < 32) ⌝ }
     ensures { λ u. ⌜ Holds (now (words .exit)) (now (bytes .exit)) (pushedState (stateOf (now (words .entry)) (now (bytes .entry))) t q inner) ⌝ }
 {
@@ -151,7 +153,7 @@ fn push(words: &mut [u64; 548], bytes: &mut [u8; 3072], t: usize, q: u8, inner: 
 // ---- the call
 
 // The effect of an accepted entry, below the innermost scope.
-fn apply_enter(words: &mut [u64; 548], bytes: &mut [u8; 3072], t: usize, q: usize, inner: u8) -> u64
+fn apply_enter(words: &mut Words, bytes: &mut Bytes, t: usize, q: usize, inner: u8) -> u64
     requires { ⌜ Ready (now words) (now bytes) × Enterable (stateOf (now words) (now bytes)) t q × (inner ≡ innermost (stackAt (stateOf (now words) (now bytes)) t)) ⌝ }
     ensures { λ r. ⌜ r ≡ enterValue (stateOf (now (words .entry)) (now (bytes .entry))) q ⌝ }
     ensures { λ r. ⌜ Holds (now (words .exit)) (now (bytes .exit)) (enterState (stateOf (now (words .entry)) (now (bytes .entry))) t q) ⌝ }
@@ -164,8 +166,8 @@ fn apply_enter(words: &mut [u64; 548], bytes: &mut [u8; 3072], t: usize, q: usiz
 // Op 04: area q; the value is its generation. The innermost scope is looked up once, for the checks and
 // for the effect.
 pub fn enter(
-    words: &mut [u64; 548],
-    bytes: &mut [u8; 3072],
+    words: &mut Words,
+    bytes: &mut Bytes,
     permanent: &[u64],
     scratch: &[u64],
     map: &[u64],

@@ -1,6 +1,8 @@
 // Op 05: an area is left.
 use layout::stack::Answer;
 use model::Area;
+use tables::Bytes;
+use tables::Words;
 ghost use mathlib.Core.Path.{_≡_};
 ghost use Prim.Native.Nat.{pred, _<_, _≤_};
 ghost use Rattle.layout.specs.Choice.{pick};
@@ -11,8 +13,8 @@ ghost use Rattle.tables.specs.Decode.{stateOf, Sized, Holds};
 ghost use Rattle.tables.specs.Contract.{memoryOf, Ready, Done};
 
 fn check_exit(
-    words: &[u64; 548],
-    bytes: &[u8; 3072],
+    words: &Words,
+    bytes: &Bytes,
     permanent: &[u64],
     scratch: &[u64],
     map: &[u64],
@@ -52,7 +54,7 @@ fn left_area(x: Area) -> Area
 }
 
 // Area q is left; the count that is left of a scope, else 0.
-fn leave_area(words: &mut [u64; 548], bytes: &[u8; 3072], q: usize) -> u64
+fn leave_area(words: &mut Words, bytes: &Bytes, q: usize) -> u64
     requires { ⌜ Sized (now words) (now bytes) × (q < 64) × (2 ≤ q → 0 < areaAt (stateOf (now words) (now bytes)) q .count) ⌝ }
     ensures { λ r. ⌜ r ≡ pick (isScope q) (pred (areaAt (stateOf (now (words .entry)) (now (bytes .entry))) q .count)) 0 ⌝ }
     ensures { λ r. ⌜ Holds (now (words .exit)) (now (bytes .entry)) (leftArea (stateOf (now (words .entry)) (now (bytes .entry))) q) ⌝ }
@@ -66,7 +68,7 @@ fn leave_area(words: &mut [u64; 548], bytes: &[u8; 3072], q: usize) -> u64
 }
 
 // The top entry is taken off.
-fn pop(words: &mut [u64; 548], bytes: &[u8; 3072], t: usize)
+fn pop(words: &mut Words, bytes: &Bytes, t: usize)
     requires { ⌜ Sized (now words) (now bytes) × (t < 16) × (0 < threadAt (stateOf (now words) (now bytes)) t .len) ⌝ }
     ensures { λ u. ⌜ Holds (now (words .exit)) (now (bytes .entry)) (withThread (stateOf (now (words .entry)) (now (bytes .entry))) t (popped (threadAt (stateOf (now (words .entry)) (now (bytes .entry))) t))) ⌝ }
 {
@@ -74,7 +76,7 @@ fn pop(words: &mut [u64; 548], bytes: &[u8; 3072], t: usize)
     stacks::put_len(words, t, len - 1);
 }
 
-fn apply_exit(words: &mut [u64; 548], bytes: &[u8; 3072], t: usize) -> u64
+fn apply_exit(words: &mut Words, bytes: &Bytes, t: usize) -> u64
     requires { ⌜ Ready (now words) (now bytes) × (t < 16) × (0 < threadAt (stateOf (now words) (now bytes)) t .len) ⌝ }
     ensures { λ r. ⌜ r ≡ exitValue (stateOf (now (words .entry)) (now (bytes .entry))) t ⌝ }
     ensures { λ r. ⌜ Holds (now (words .exit)) (now (bytes .entry)) (exitState (stateOf (now (words .entry)) (now (bytes .entry))) t) ⌝ }
@@ -86,8 +88,8 @@ fn apply_exit(words: &mut [u64; 548], bytes: &[u8; 3072], t: usize) -> u64
 }
 
 pub fn exit(
-    words: &mut [u64; 548],
-    bytes: &[u8; 3072],
+    words: &mut Words,
+    bytes: &Bytes,
     permanent: &[u64],
     scratch: &[u64],
     map: &[u64],

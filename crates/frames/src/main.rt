@@ -3,6 +3,8 @@
 use libc::STDERR_FILENO;
 use libc::STDIN_FILENO;
 use libc::STDOUT_FILENO;
+use tables::Bytes;
+use tables::Words;
 ghost use mathlib.Core.Path.{_≡_};
 ghost use Prim.Native.Nat.{_*_, _≤_};
 ghost use lib.ListN.{length, replicate};
@@ -35,8 +37,8 @@ fn write_answers(answers: &[u8]) -> bool {
 
 // Answers the lines that end in a chunk, and writes the answers by one call.
 fn answer_chunk(
-    words: &mut [u64; 548],
-    bytes: &mut [u8; 3072],
+    words: &mut Words,
+    bytes: &mut Bytes,
     permanent: &mut [u64],
     scratch: &mut [u64],
     map: &mut [u64],
@@ -71,8 +73,8 @@ fn answer_chunk(
 
 // Reads a chunk and answers it. At the end of the input the line so far is left.
 fn take_chunk(
-    words: &mut [u64; 548],
-    bytes: &mut [u8; 3072],
+    words: &mut Words,
+    bytes: &mut Bytes,
     permanent: &mut [u64],
     scratch: &mut [u64],
     map: &mut [u64],
@@ -108,8 +110,8 @@ fn take_chunk(
 
 // Answers what is left at the end of the input.
 fn answer_rest(
-    words: &mut [u64; 548],
-    bytes: &mut [u8; 3072],
+    words: &mut Words,
+    bytes: &mut Bytes,
     permanent: &mut [u64],
     scratch: &mut [u64],
     map: &mut [u64],
@@ -126,8 +128,8 @@ fn answer_rest(
 // Chunk after chunk, and then what is left, from the first world on. A proved loop has to end, and nothing says that the
 // input does, so the turns are counted down from a number that no run uses up.
 fn answer_all(
-    words: &mut [u64; 548],
-    bytes: &mut [u8; 3072],
+    words: &mut Words,
+    bytes: &mut Bytes,
     permanent: &mut [u64],
     scratch: &mut [u64],
     map: &mut [u64],

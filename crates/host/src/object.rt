@@ -1,6 +1,8 @@
 // Ops 06 to 0a: an object is allocated, its slots are stored and loaded, its data words written and
 // read; and its data as a part of its store.
 use layout::stack::Answer;
+use tables::Bytes;
+use tables::Words;
 use views::Part;
 ghost use mathlib.Core.Path.{_≡_};
 ghost use Rattle.model.specs.Calls as calls;
@@ -11,8 +13,8 @@ ghost use Rattle.views.specs.PlacedView.{partOf};
 // Op 06: an object with so many slots and data words in the current area; the value is its handle.
 #[no_mangle]
 pub extern "C" fn scopes_allocate(
-    words: &mut [u64; 548],
-    bytes: &[u8; 3072],
+    words: &mut Words,
+    bytes: &Bytes,
     permanent: &mut [u64],
     scratch: &mut [u64],
     map: &mut [u64],
@@ -30,8 +32,8 @@ pub extern "C" fn scopes_allocate(
 // Op 07: a reference to a target, or null, is stored in a slot of an object.
 #[no_mangle]
 pub extern "C" fn scopes_store(
-    words: &[u64; 548],
-    bytes: &[u8; 3072],
+    words: &Words,
+    bytes: &Bytes,
     permanent: &mut [u64],
     scratch: &mut [u64],
     map: &[u64],
@@ -60,8 +62,8 @@ pub extern "C" fn scopes_store(
 // Op 08: the value is the reference in a slot of an object.
 #[no_mangle]
 pub extern "C" fn scopes_load(
-    words: &[u64; 548],
-    bytes: &[u8; 3072],
+    words: &Words,
+    bytes: &Bytes,
     permanent: &[u64],
     scratch: &[u64],
     map: &[u64],
@@ -78,8 +80,8 @@ pub extern "C" fn scopes_load(
 // Op 09: a data word of an object is written.
 #[no_mangle]
 pub extern "C" fn scopes_write(
-    words: &[u64; 548],
-    bytes: &[u8; 3072],
+    words: &Words,
+    bytes: &Bytes,
     permanent: &mut [u64],
     scratch: &mut [u64],
     map: &[u64],
@@ -108,8 +110,8 @@ pub extern "C" fn scopes_write(
 // Op 0a: the value is a data word of an object.
 #[no_mangle]
 pub extern "C" fn scopes_read(
-    words: &[u64; 548],
-    bytes: &[u8; 3072],
+    words: &Words,
+    bytes: &Bytes,
     permanent: &[u64],
     scratch: &[u64],
     map: &[u64],
@@ -126,8 +128,8 @@ pub extern "C" fn scopes_read(
 // The status of showing an object's data.
 #[no_mangle]
 pub extern "C" fn scopes_view_status(
-    words: &[u64; 548],
-    bytes: &[u8; 3072],
+    words: &Words,
+    bytes: &Bytes,
     permanent: &[u64],
     scratch: &[u64],
     map: &[u64],
@@ -143,8 +145,8 @@ pub extern "C" fn scopes_view_status(
 // Where its data lie: a store, the first word and how many; what `views::view` shows.
 #[no_mangle]
 pub extern "C" fn scopes_view_place(
-    words: &[u64; 548],
-    bytes: &[u8; 3072],
+    words: &Words,
+    bytes: &Bytes,
     permanent: &[u64],
     scratch: &[u64],
     map: &[u64],

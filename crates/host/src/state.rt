@@ -1,6 +1,8 @@
 // Set-up, and ops 01 to 05: threads start and end, scopes are made, entered and left.
 use layout::stack::Answer;
 use setup::SetUp;
+use tables::Bytes;
+use tables::Words;
 ghost use Rattle.model.specs.SetUp.{lengthsOf};
 ghost use Rattle.model.specs.Calls as calls;
 ghost use Rattle.tables.specs.Decode.{stateOf};
@@ -24,8 +26,8 @@ pub extern "C" fn scopes_set_up(
 // Op 01: thread t starts, of a kind.
 #[no_mangle]
 pub extern "C" fn scopes_start(
-    words: &mut [u64; 548],
-    bytes: &[u8; 3072],
+    words: &mut Words,
+    bytes: &Bytes,
     permanent: &[u64],
     scratch: &[u64],
     map: &[u64],
@@ -41,8 +43,8 @@ pub extern "C" fn scopes_start(
 // Op 02: thread t ends.
 #[no_mangle]
 pub extern "C" fn scopes_end(
-    words: &mut [u64; 548],
-    bytes: &[u8; 3072],
+    words: &mut Words,
+    bytes: &Bytes,
     permanent: &[u64],
     scratch: &[u64],
     map: &[u64],
@@ -57,8 +59,8 @@ pub extern "C" fn scopes_end(
 // Op 03: a scope is made, of a size in words.
 #[no_mangle]
 pub extern "C" fn scopes_make(
-    words: &mut [u64; 548],
-    bytes: &[u8; 3072],
+    words: &mut Words,
+    bytes: &Bytes,
     permanent: &[u64],
     scratch: &[u64],
     map: &[u64],
@@ -75,8 +77,8 @@ pub extern "C" fn scopes_make(
 // Op 04: an area is entered; the value is its generation.
 #[no_mangle]
 pub extern "C" fn scopes_enter(
-    words: &mut [u64; 548],
-    bytes: &mut [u8; 3072],
+    words: &mut Words,
+    bytes: &mut Bytes,
     permanent: &[u64],
     scratch: &[u64],
     map: &[u64],
@@ -92,8 +94,8 @@ pub extern "C" fn scopes_enter(
 // Op 05: the current area is left; the value is the count that is left of a scope, else 0.
 #[no_mangle]
 pub extern "C" fn scopes_exit(
-    words: &mut [u64; 548],
-    bytes: &[u8; 3072],
+    words: &mut Words,
+    bytes: &Bytes,
     permanent: &[u64],
     scratch: &[u64],
     map: &[u64],

@@ -1,5 +1,7 @@
 // The object that a handle leads to, if it is live.
 use layout::handle;
+use tables::Bytes;
+use tables::Words;
 ghost use mathlib.Core.Path.{_≡_};
 ghost use mathlib.Core.Bool.{true};
 ghost use Prim.Native.Nat.{_+_, _<_};
@@ -66,8 +68,8 @@ fn whole(header: u64, area: u64, at: usize, offset: u64, used: u64) -> Found
 
 // The object that a handle leads to. A scope that is not open has no used words.
 pub fn lookup(
-    words: &[u64; 548],
-    bytes: &[u8; 3072],
+    words: &Words,
+    bytes: &Bytes,
     permanent: &[u64],
     scratch: &[u64],
     map: &[u64],

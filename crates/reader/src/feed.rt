@@ -4,6 +4,8 @@ use layout::stack::Answer;
 use lines::frame::Fields;
 use lines::frame::Line;
 use scopes::Op;
+use tables::Bytes;
+use tables::Words;
 ghost use mathlib.Core.Path.{_≡_};
 ghost use mathlib.Core.List.{[], _∷_};
 ghost use Prim.Native.Nat.{_+_, _*_, _≤_};
@@ -38,8 +40,8 @@ fn op_of(op: u64) -> Op
 
 // Carries out the call of a frame.
 fn carry_out(
-    words: &mut [u64; 548],
-    bytes: &mut [u8; 3072],
+    words: &mut Words,
+    bytes: &mut Bytes,
     permanent: &mut [u64],
     scratch: &mut [u64],
     map: &mut [u64],
@@ -64,8 +66,8 @@ fn carry_out(
 
 // Answers a line: a frame's call is carried out; any other line gives 18 and changes nothing.
 fn answer_line(
-    words: &mut [u64; 548],
-    bytes: &mut [u8; 3072],
+    words: &mut Words,
+    bytes: &mut Bytes,
     permanent: &mut [u64],
     scratch: &mut [u64],
     map: &mut [u64],
@@ -86,8 +88,8 @@ fn answer_line(
 
 // Answers a line and writes the answer.
 fn end_line(
-    words: &mut [u64; 548],
-    bytes: &mut [u8; 3072],
+    words: &mut Words,
+    bytes: &mut Bytes,
     permanent: &mut [u64],
     scratch: &mut [u64],
     map: &mut [u64],
@@ -105,8 +107,8 @@ fn end_line(
 
 // One byte: a line feed ends the line so far; any other byte belongs to it.
 fn feed_byte(
-    words: &mut [u64; 548],
-    bytes: &mut [u8; 3072],
+    words: &mut Words,
+    bytes: &mut Bytes,
     permanent: &mut [u64],
     scratch: &mut [u64],
     map: &mut [u64],
@@ -134,8 +136,8 @@ fn feed_byte(
 
 // A chunk of the input, one byte a turn. The output has room for an answer to each byte of it.
 pub fn feed(
-    words: &mut [u64; 548],
-    bytes: &mut [u8; 3072],
+    words: &mut Words,
+    bytes: &mut Bytes,
     permanent: &mut [u64],
     scratch: &mut [u64],
     map: &mut [u64],
@@ -175,8 +177,8 @@ pub fn feed(
 
 // The end of the input: a line so far that is not empty is a line. How many bytes were written.
 pub fn finish(
-    words: &mut [u64; 548],
-    bytes: &mut [u8; 3072],
+    words: &mut Words,
+    bytes: &mut Bytes,
     permanent: &mut [u64],
     scratch: &mut [u64],
     map: &mut [u64],

@@ -5,6 +5,8 @@ use layout::handle;
 use layout::stack::Answer;
 use objects::Found;
 use rights::Right;
+use tables::Bytes;
+use tables::Words;
 ghost use mathlib.Core.Path.{_≡_};
 ghost use mathlib.Core.Bool.{true};
 ghost use Prim.Native.Nat.{_<_};
@@ -19,7 +21,7 @@ ghost use Rattle.access.specs.Spots.{spotOf};
 
 // The assignment rule, for the areas of an object and of a target: one look into the display of the
 // object's area (source 004, Algorithm 9).
-fn may_refer(words: &[u64; 548], bytes: &[u8; 3072], object: u64, target: u64) -> bool
+fn may_refer(words: &Words, bytes: &Bytes, object: u64, target: u64) -> bool
     requires { ⌜ Ready (now words) (now bytes) × (object < 64) × (target < 64) ⌝ }
     ensures { λ r. ⌜ r ≡ mayRefer (stateOf (now (words .entry)) (now (bytes .entry))) object target ⌝ }
 {
@@ -36,8 +38,8 @@ fn may_refer(words: &[u64; 548], bytes: &[u8; 3072], object: u64, target: u64) -
 
 // Refusals 13, 5 and 14, for a call that has passed 1 and 2: an object and one of its slots.
 fn check_slot(
-    words: &[u64; 548],
-    bytes: &[u8; 3072],
+    words: &Words,
+    bytes: &Bytes,
     permanent: &[u64],
     scratch: &[u64],
     map: &[u64],
@@ -61,8 +63,8 @@ fn check_slot(
 
 // Refusals 15 and 5: a target or a loaded word. Null always passes.
 fn check_reference(
-    words: &[u64; 548],
-    bytes: &[u8; 3072],
+    words: &Words,
+    bytes: &Bytes,
     permanent: &[u64],
     scratch: &[u64],
     map: &[u64],
@@ -89,8 +91,8 @@ fn check_reference(
 
 // Its refusals past 1 and 2. Null's area is the heap, so the assignment rule lets it pass.
 fn check_store(
-    words: &[u64; 548],
-    bytes: &[u8; 3072],
+    words: &Words,
+    bytes: &Bytes,
     permanent: &[u64],
     scratch: &[u64],
     map: &[u64],
@@ -120,8 +122,8 @@ fn check_store(
 
 // Op 07: object p, slot q, target; the value is 0.
 pub fn store(
-    words: &[u64; 548],
-    bytes: &[u8; 3072],
+    words: &Words,
+    bytes: &Bytes,
     permanent: &mut [u64],
     scratch: &mut [u64],
     map: &[u64],
@@ -158,8 +160,8 @@ pub fn store(
 
 // Object p, slot q; the value is the stored word.
 pub fn load(
-    words: &[u64; 548],
-    bytes: &[u8; 3072],
+    words: &Words,
+    bytes: &Bytes,
     permanent: &[u64],
     scratch: &[u64],
     map: &[u64],

@@ -1,5 +1,6 @@
 // The displays in the tables: a row of 32 bytes for each area.
 use display::Depth;
+use tables::Bytes;
 ghost use mathlib.Core.Path.{_≡_};
 ghost use Prim.Native.Nat.{_+_, _*_, _<_, _≤_};
 ghost use lib.ListN.{set};
@@ -7,7 +8,7 @@ ghost use Rattle.display.specs.Display.{rowHolds};
 ghost use Rattle.tables.specs.Decode.{rowOf, putRow};
 
 // The display of an area, by value.
-pub fn row_at(bytes: &[u8; 3072], a: usize) -> [u8; 32]
+pub fn row_at(bytes: &Bytes, a: usize) -> [u8; 32]
     requires { ⌜ a < 64 ⌝ }
     ensures { λ r. ⌜ r ≡ rowOf (now (bytes .entry)) a ⌝ }
 {
@@ -21,7 +22,7 @@ pub fn row_at(bytes: &[u8; 3072], a: usize) -> [u8; 32]
     row
 }
 
-pub fn put_row(bytes: &mut [u8; 3072], a: usize, row: [u8; 32])
+pub fn put_row(bytes: &mut Bytes, a: usize, row: [u8; 32])
     requires { ⌜ a < 64 ⌝ }
     ensures { λ r. ⌜ now (bytes .exit) ≡ putRow (now (bytes .entry)) a row ⌝ }
 {
@@ -34,7 +35,7 @@ pub fn put_row(bytes: &mut [u8; 3072], a: usize, row: [u8; 32])
 }
 
 // One entry of the display of an area: that of a depth, from 0 on.
-pub fn put_ancestor(bytes: &mut [u8; 3072], a: usize, depth: Depth, area: u8)
+pub fn put_ancestor(bytes: &mut Bytes, a: usize, depth: Depth, area: u8)
     requires { ⌜ (a < 64) × (depth .0 < 32) ⌝ }
     ensures { λ r. ⌜ now (bytes .exit) ≡ set (now (bytes .entry)) (1024 + a * 32 + depth .0) area ⌝ }
 {
@@ -43,7 +44,7 @@ pub fn put_ancestor(bytes: &mut [u8; 3072], a: usize, depth: Depth, area: u8)
 }
 
 // Whether the display of area b holds an area of a depth: one look.
-pub fn row_holds(bytes: &[u8; 3072], b: usize, depth: Depth, area: u8) -> bool
+pub fn row_holds(bytes: &Bytes, b: usize, depth: Depth, area: u8) -> bool
     requires { ⌜ (b < 64) × (depth .0 ≤ 32) ⌝ }
     ensures { λ r. ⌜ r ≡ rowHolds (rowOf (now (bytes .entry)) b) (depth .0) area ⌝ }
 {

@@ -1,5 +1,7 @@
 // The core: a call of any op, carried out in place on the tables and the buffers that are lent.
 use layout::stack::Answer;
+use tables::Bytes;
+use tables::Words;
 ghost use Prim.Native.Nat.{ℕ};
 ghost use Rattle.tables.specs.Contract.{Ready};
 ghost use Rattle.scopes.specs.Step.{callOf, Carried};
@@ -20,8 +22,8 @@ pub enum Op {
 
 // A step of the machine: the answer, the tables and the buffers are those of the definition.
 pub fn carry_out(
-    words: &mut [u64; 548],
-    bytes: &mut [u8; 3072],
+    words: &mut Words,
+    bytes: &mut Bytes,
     permanent: &mut [u64],
     scratch: &mut [u64],
     map: &mut [u64],

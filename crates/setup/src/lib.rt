@@ -2,6 +2,8 @@
 // written.
 use model::Area;
 use model::Lengths;
+use tables::Bytes;
+use tables::Words;
 ghost use mathlib.Core.Path.{_≡_};
 ghost use lib.ListN.{replicate};
 ghost use Rattle.model.specs.SetUp.{setUpStatus, setUpState, standing, lengthsOf};
@@ -13,8 +15,8 @@ ghost use Rattle.setup.specs.First.{firstWords, Begun};
 #[repr(C)]
 pub struct SetUp {
     pub status: u64,
-    pub words: [u64; 548],
-    pub bytes: [u8; 3072],
+    pub words: Words,
+    pub bytes: Bytes,
 }
 
 // Heap or immortal memory.
@@ -56,7 +58,7 @@ fn check_set_up(h: u64, i: u64, n: Lengths) -> u64
 }
 
 // The words of the first state.
-fn first_words(h: u64, i: u64, n: Lengths) -> [u64; 548]
+fn first_words(h: u64, i: u64, n: Lengths) -> Words
     ensures { λ r. ⌜ r ≡ firstWords h i n ⌝ }
 {
     let mut words = [0u64; 548];
@@ -67,7 +69,7 @@ fn first_words(h: u64, i: u64, n: Lengths) -> [u64; 548]
 }
 
 // The words of what set-up gives: of an accepted one, or of one with all lengths 0.
-fn set_up_words(status: u64, h: u64, i: u64, n: Lengths) -> [u64; 548]
+fn set_up_words(status: u64, h: u64, i: u64, n: Lengths) -> Words
     requires { ⌜ status ≡ setUpStatus h i n ⌝ }
     ensures { λ r. ⌜ Holds r (replicate 3072 0) (setUpState h i n) ⌝ }
 {

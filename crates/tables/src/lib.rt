@@ -11,9 +11,14 @@ ghost use Prim.Native.Nat.{_<_};
 ghost use lib.ListN.{getD};
 ghost use Rattle.tables.specs.Decode.{areaOf, putArea, putTaken, lengthsOf, putLengths};
 
+// The two tables.
+pub type Words = [u64; 548];
+
+pub type Bytes = [u8; 3072];
+
 // ---- areas
 
-pub fn area_at(words: &[u64; 548], a: usize) -> Area
+pub fn area_at(words: &Words, a: usize) -> Area
     requires { ⌜ a < 64 ⌝ }
     ensures { λ r. ⌜ r ≡ areaOf (now (words .entry)) a ⌝ }
 {
@@ -29,7 +34,7 @@ pub fn area_at(words: &[u64; 548], a: usize) -> Area
     }
 }
 
-pub fn put_area(words: &mut [u64; 548], a: usize, x: Area)
+pub fn put_area(words: &mut Words, a: usize, x: Area)
     requires { ⌜ a < 64 ⌝ }
     ensures { λ r. ⌜ now (words .exit) ≡ putArea (now (words .entry)) a x ⌝ }
 {
@@ -45,7 +50,7 @@ pub fn put_area(words: &mut [u64; 548], a: usize, x: Area)
 
 // ---- lengths and scratch
 
-pub fn lengths_at(words: &[u64; 548]) -> Lengths
+pub fn lengths_at(words: &Words) -> Lengths
     ensures { λ r. ⌜ r ≡ lengthsOf (now (words .entry)) ⌝ }
 {
     Lengths {
@@ -55,7 +60,7 @@ pub fn lengths_at(words: &[u64; 548]) -> Lengths
     }
 }
 
-pub fn put_lengths(words: &mut [u64; 548], n: Lengths)
+pub fn put_lengths(words: &mut Words, n: Lengths)
     ensures { λ r. ⌜ now (words .exit) ≡ putLengths (now (words .entry)) n ⌝ }
 {
     words[544] = n.permanent;
@@ -63,13 +68,13 @@ pub fn put_lengths(words: &mut [u64; 548], n: Lengths)
     words[546] = n.map;
 }
 
-pub fn taken_at(words: &[u64; 548]) -> u64
+pub fn taken_at(words: &Words) -> u64
     ensures { λ r. ⌜ r ≡ getD (now (words .entry)) 547 0 ⌝ }
 {
     words[547]
 }
 
-pub fn put_taken(words: &mut [u64; 548], n: u64)
+pub fn put_taken(words: &mut Words, n: u64)
     ensures { λ r. ⌜ now (words .exit) ≡ putTaken (now (words .entry)) n ⌝ }
 {
     words[547] = n;

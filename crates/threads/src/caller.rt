@@ -1,4 +1,6 @@
 // Refusals 1 and 2, with which every call begins.
+use tables::Bytes;
+use tables::Words;
 ghost use mathlib.Core.Path.{_≡_};
 ghost use Rattle.model.specs.Checks.{fits, admit};
 ghost use Rattle.tables.specs.Decode.{stateOf};
@@ -6,8 +8,8 @@ ghost use Rattle.tables.specs.Contract.{memoryOf};
 
 // Whether the lent buffers have the lengths of set-up.
 pub fn lengths_fit(
-    words: &[u64; 548],
-    bytes: &[u8; 3072],
+    words: &Words,
+    bytes: &Bytes,
     permanent: &[u64],
     scratch: &[u64],
     map: &[u64],
@@ -26,8 +28,8 @@ pub fn lengths_fit(
 
 // Refusals 1 and 2, with which every call begins.
 pub fn check_caller(
-    words: &[u64; 548],
-    bytes: &[u8; 3072],
+    words: &Words,
+    bytes: &Bytes,
     permanent: &[u64],
     scratch: &[u64],
     map: &[u64],

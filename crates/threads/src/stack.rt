@@ -1,5 +1,7 @@
 // What is seen of a thread's stack by one look: its current area and its innermost scope.
 use layout::stack::Place;
+use tables::Bytes;
+use tables::Words;
 ghost use mathlib.Core.Path.{_≡_};
 ghost use Prim.Native.Nat.{_<_};
 ghost use Rattle.model.specs.State.{stackAt, current, innermost};
@@ -7,7 +9,7 @@ ghost use Rattle.tables.specs.Decode.{stateOf};
 ghost use Rattle.tables.specs.Contract.{Ready};
 
 // The current area: the top entry, or the heap where the stack is empty.
-pub fn current_area(words: &[u64; 548], bytes: &[u8; 3072], t: usize) -> u8
+pub fn current_area(words: &Words, bytes: &Bytes, t: usize) -> u8
     requires { ⌜ Ready (now words) (now bytes) × (t < 16) ⌝ }
     ensures { λ r. ⌜ r ≡ current (stackAt (stateOf (now (words .entry)) (now (bytes .entry))) t) ⌝ }
 {
@@ -19,7 +21,7 @@ pub fn current_area(words: &[u64; 548], bytes: &[u8; 3072], t: usize) -> u8
 }
 
 // The innermost scope, or 0 where there is none: one look (source 004, Algorithm 6).
-pub fn innermost_scope(words: &[u64; 548], bytes: &[u8; 3072], t: usize) -> u8
+pub fn innermost_scope(words: &Words, bytes: &Bytes, t: usize) -> u8
     requires { ⌜ Ready (now words) (now bytes) × (t < 16) ⌝ }
     ensures { λ r. ⌜ r ≡ innermost (stackAt (stateOf (now (words .entry)) (now (bytes .entry))) t) ⌝ }
 {

@@ -1,6 +1,8 @@
 // Ops 01 and 02: threads start and end.
 use crate::caller;
 use layout::stack::Answer;
+use tables::Bytes;
+use tables::Words;
 ghost use mathlib.Core.Path.{_≡_};
 ghost use Rattle.model.specs.Threads.{startStatus, endStatus};
 ghost use Rattle.model.specs.Calls as calls;
@@ -10,8 +12,8 @@ ghost use Rattle.tables.specs.Contract.{memoryOf, Ready, Done};
 // ---- op 01, start thread
 
 fn check_start(
-    words: &[u64; 548],
-    bytes: &[u8; 3072],
+    words: &Words,
+    bytes: &Bytes,
     permanent: &[u64],
     scratch: &[u64],
     map: &[u64],
@@ -40,8 +42,8 @@ fn check_start(
 }
 
 pub fn start(
-    words: &mut [u64; 548],
-    bytes: &[u8; 3072],
+    words: &mut Words,
+    bytes: &Bytes,
     permanent: &[u64],
     scratch: &[u64],
     map: &[u64],
@@ -61,8 +63,8 @@ pub fn start(
 // ---- op 02, end thread
 
 fn check_end(
-    words: &[u64; 548],
-    bytes: &[u8; 3072],
+    words: &Words,
+    bytes: &Bytes,
     permanent: &[u64],
     scratch: &[u64],
     map: &[u64],
@@ -81,8 +83,8 @@ fn check_end(
 }
 
 pub fn end(
-    words: &mut [u64; 548],
-    bytes: &[u8; 3072],
+    words: &mut Words,
+    bytes: &Bytes,
     permanent: &[u64],
     scratch: &[u64],
     map: &[u64],

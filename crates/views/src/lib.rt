@@ -2,6 +2,8 @@
 // that yields the status.
 use access::Spot;
 use layout::stack::Answer;
+use tables::Bytes;
+use tables::Words;
 ghost use mathlib.Core.Path.{_≡_};
 ghost use Rattle.layout.specs.Choice.{pick};
 ghost use Rattle.model.specs.State.{isScope};
@@ -26,8 +28,8 @@ pub struct Part {
 
 // Refusals 1, 2, 13 and 5.
 fn check_view(
-    words: &[u64; 548],
-    bytes: &[u8; 3072],
+    words: &Words,
+    bytes: &Bytes,
     permanent: &[u64],
     scratch: &[u64],
     map: &[u64],
@@ -56,8 +58,8 @@ fn store_of(area: u64) -> u64
 
 // Where the shown part lies, for who cannot be given a part of a slice.
 pub fn view_place(
-    words: &[u64; 548],
-    bytes: &[u8; 3072],
+    words: &Words,
+    bytes: &Bytes,
     permanent: &[u64],
     scratch: &[u64],
     map: &[u64],
@@ -86,8 +88,8 @@ pub fn view_place(
 // The shown part: exactly the object's data words, where they lie; where the call is refused a part
 // of length 0.
 pub fn view<'a>(
-    words: &[u64; 548],
-    bytes: &[u8; 3072],
+    words: &Words,
+    bytes: &Bytes,
     permanent: &'a [u64],
     scratch: &'a [u64],
     map: &[u64],
@@ -109,8 +111,8 @@ pub fn view<'a>(
 
 // The call beside it.
 pub fn view_status(
-    words: &[u64; 548],
-    bytes: &[u8; 3072],
+    words: &Words,
+    bytes: &Bytes,
     permanent: &[u64],
     scratch: &[u64],
     map: &[u64],
