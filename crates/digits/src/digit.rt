@@ -4,6 +4,9 @@ ghost use mathlib.Core.Bool.{true};
 ghost use lib.ListN.{length};
 ghost use Rattle.digits.specs.Hexadecimal.{isDigit, digitValue, allDigits, fieldOf, Digits};
 
+// What is kept of a line: a frame is no longer.
+pub type Text = [u8; 40];
+
 // 0 to 9, a to f.
 fn is_digit(b: u8) -> bool
     ensures { λ r. ⌜ r ≡ isDigit b ⌝ }
@@ -25,7 +28,7 @@ fn digit_value(b: u8) -> u64
     (b - 87) as u64
 }
 
-pub fn all_digits(line: &[u8; 40]) -> bool
+pub fn all_digits(line: &Text) -> bool
     requires { ⌜ length (now line) ≡ 40 ⌝ }
     ensures { λ r. ⌜ r ≡ allDigits (now (line .entry)) ⌝ }
 {
@@ -40,7 +43,7 @@ pub fn all_digits(line: &[u8; 40]) -> bool
 }
 
 // The number of n digits from place at on: below 16^n, so that nothing wraps.
-pub fn field(line: &[u8; 40], at: usize, n: usize) -> u64
+pub fn field(line: &Text, at: usize, n: usize) -> u64
     requires { ⌜ Digits (now line) at n ⌝ }
     ensures { λ r. ⌜ r ≡ fieldOf (now (line .entry)) at n ⌝ }
 {

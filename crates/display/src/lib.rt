@@ -4,12 +4,15 @@ ghost use Prim.Native.Nat.{_<_, _≤_};
 ghost use lib.ListN.{length};
 ghost use Rattle.display.specs.Display.{extendedRow, rowHolds};
 
+// A display has room for as many scopes as a stack has entries.
+pub type Row = [u8; 32];
+
 // How many scopes a display has: 0 for heap, immortal and every scope that is not open. Source 004
 // counts from -1.
 pub struct Depth(pub usize);
 
 // The parent's row, copied, with one entry more.
-pub fn extended(row: [u8; 32], depth: Depth, area: u8) -> [u8; 32]
+pub fn extended(row: Row, depth: Depth, area: u8) -> Row
     requires { ⌜ depth .0 < 32 ⌝ }
     ensures { λ r. ⌜ r ≡ extendedRow row (depth .0) area ⌝ }
 {

@@ -1,5 +1,6 @@
 // Standard input to standard output: each line of calls is answered by a line. The work is done in
 // `reader`; here are the buffers, the reads and the writes.
+use digits::digit::Text;
 use libc::STDERR_FILENO;
 use libc::STDIN_FILENO;
 use libc::STDOUT_FILENO;
@@ -42,7 +43,7 @@ fn answer_chunk(
     permanent: &mut [u64],
     scratch: &mut [u64],
     map: &mut [u64],
-    line: &mut [u8; 40],
+    line: &mut Text,
     len: usize,
     chunk: &[u8],
     output: &mut [u8],
@@ -78,7 +79,7 @@ fn take_chunk(
     permanent: &mut [u64],
     scratch: &mut [u64],
     map: &mut [u64],
-    line: &mut [u8; 40],
+    line: &mut Text,
     len: usize,
     input: &mut [u8],
     output: &mut [u8],
@@ -115,7 +116,7 @@ fn answer_rest(
     permanent: &mut [u64],
     scratch: &mut [u64],
     map: &mut [u64],
-    line: &[u8; 40],
+    line: &Text,
     len: usize,
     output: &mut [u8],
 )

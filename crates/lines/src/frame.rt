@@ -1,4 +1,5 @@
 // The five fields of a line, and whether the line is a frame.
+use digits::digit::Text;
 ghost use mathlib.Core.Path.{_≡_};
 ghost use mathlib.Core.Bool.{true, _||_};
 ghost use mathlib.Core.List.{List};
@@ -24,7 +25,7 @@ pub enum Line {
     Bad,
 }
 
-fn read_fields(line: &[u8; 40]) -> Fields
+fn read_fields(line: &Text) -> Fields
     requires { ⌜ (length (now line) ≡ 40) × (allDigits (now line) ≡ true) ⌝ }
     ensures { λ r. ⌜ r ≡ fieldsOf (now (line .entry)) ⌝ }
 {
@@ -93,7 +94,7 @@ pub fn unused_zero(f: Fields) -> bool
 
 // What the line so far says as a whole line: its first bytes are kept, and len is 41 for every line
 // that is longer than 40.
-pub fn parse_line(line: &[u8; 40], len: usize) -> Line
+pub fn parse_line(line: &Text, len: usize) -> Line
     requires { ⌜ length (now line) ≡ 40 ⌝ }
     ensures { λ r. ⌜ ((l : List ℕ) → Holds (now (line .entry)) len l → Means r l) ⌝ }
 {

@@ -1,5 +1,6 @@
 // Feeding: the input comes in chunks, each line that ends is answered, and the line so far waits for
 // the next chunk.
+use digits::digit::Text;
 use layout::stack::Answer;
 use lines::frame::Fields;
 use lines::frame::Line;
@@ -71,7 +72,7 @@ fn answer_line(
     permanent: &mut [u64],
     scratch: &mut [u64],
     map: &mut [u64],
-    line: &[u8; 40],
+    line: &Text,
     len: usize,
 ) -> Answer
     requires { ⌜ (Ready (now words) (now bytes)) × (length (now line) ≡ 40) ⌝ }
@@ -93,7 +94,7 @@ fn end_line(
     permanent: &mut [u64],
     scratch: &mut [u64],
     map: &mut [u64],
-    line: &[u8; 40],
+    line: &Text,
     len: usize,
     output: &mut [u8],
     at: usize,
@@ -112,7 +113,7 @@ fn feed_byte(
     permanent: &mut [u64],
     scratch: &mut [u64],
     map: &mut [u64],
-    line: &mut [u8; 40],
+    line: &mut Text,
     len: usize,
     b: u8,
     output: &mut [u8],
@@ -141,7 +142,7 @@ pub fn feed(
     permanent: &mut [u64],
     scratch: &mut [u64],
     map: &mut [u64],
-    line: &mut [u8; 40],
+    line: &mut Text,
     len: usize,
     input: &[u8],
     output: &mut [u8],
@@ -182,7 +183,7 @@ pub fn finish(
     permanent: &mut [u64],
     scratch: &mut [u64],
     map: &mut [u64],
-    line: &[u8; 40],
+    line: &Text,
     len: usize,
     output: &mut [u8],
 ) -> usize

@@ -1,5 +1,6 @@
 // The displays in the tables: a row of 32 bytes for each area.
 use display::Depth;
+use display::Row;
 use tables::Bytes;
 ghost use mathlib.Core.Path.{_≡_};
 ghost use Prim.Native.Nat.{_+_, _*_, _<_, _≤_};
@@ -8,7 +9,7 @@ ghost use Rattle.display.specs.Display.{rowHolds};
 ghost use Rattle.tables.specs.Decode.{rowOf, putRow};
 
 // The display of an area, by value.
-pub fn row_at(bytes: &Bytes, a: usize) -> [u8; 32]
+pub fn row_at(bytes: &Bytes, a: usize) -> Row
     requires { ⌜ a < 64 ⌝ }
     ensures { λ r. ⌜ r ≡ rowOf (now (bytes .entry)) a ⌝ }
 {
@@ -22,7 +23,7 @@ pub fn row_at(bytes: &Bytes, a: usize) -> [u8; 32]
     row
 }
 
-pub fn put_row(bytes: &mut Bytes, a: usize, row: [u8; 32])
+pub fn put_row(bytes: &mut Bytes, a: usize, row: Row)
     requires { ⌜ a < 64 ⌝ }
     ensures { λ r. ⌜ now (bytes .exit) ≡ putRow (now (bytes .entry)) a row ⌝ }
 {
