@@ -8,7 +8,7 @@ ghost use lib.Dec.{eqb};
 ghost use lib.ListN.{length};
 ghost use Rattle.digits.specs.Hexadecimal.{allDigits};
 ghost use Rattle.lines.specs.Frames.{fieldsOf, isOp, usesP, usesQ, usesR, unusedZero};
-ghost use Rattle.lines.specs.Lines.{Holds, Means};
+ghost use Rattle.lines.specs.Lines.{Holds, lineOf};
 
 // A line of 40 digits: op 2, thread 2, p 16, q 4, r 16.
 pub struct Fields {
@@ -96,7 +96,7 @@ pub fn unused_zero(f: Fields) -> bool
 // that is longer than 40.
 pub fn parse_line(line: &Text, len: usize) -> Line
     requires { ⌜ length (now line) ≡ 40 ⌝ }
-    ensures { λ r. ⌜ ((l : List ℕ) → Holds (now (line .entry)) len l → Means r l) ⌝ }
+    ensures { λ r. ⌜ ((l : List ℕ) → Holds (now (line .entry)) len l → r ≡ lineOf l) ⌝ }
 {
     if len != 40 {
         return Line::Bad;

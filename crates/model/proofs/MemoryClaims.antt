@@ -3,7 +3,7 @@
 use Prim.Native.Nat.{ℕ, suc, _+_, _≤_, _<_}
 use mathlib.Core.Bool.{Bool, true, false, not, _||_, false≢true}
 use mathlib.Core.List.{List, [], _∷_}
-use mathlib.Core.Path.{_≡_, refl}
+use mathlib.Core.Path.{_≡_, refl, sym, ap, _∙_}
 use mathlib.Core.Logic.{_≢_, ⊎-elim}
 use lib.Dec.{eqb, leb}
 use native.Mathlib.Omega.{arith}
@@ -17,7 +17,7 @@ use Rattle.model.specs.References.{wordAfter, slotStatus, referenceStatu
 use Rattle.model.specs.History.{Object, History, occurrences, handles}
 use Rattle.model.specs.Claims.{In, first, later}
 use Rattle.model.proofs.Lists.{occ-same, occ-other}
-use Rattle.model.proofs.Tiles.{Tile, tiled-in}
+use Rattle.model.proofs.Tiles.{Tile, tiled-in, tiled-one}
 use Rattle.model.proofs.Memory.{Ok}
 use Rattle.model.proofs.Sound.{usedIn, generationIn, bitIn, Sound}
 use Rattle.model.proofs.Live.{tile-parts, given-live}
@@ -63,6 +63,11 @@ module _ (s : State) (m : Memory) (b : History) (o : Sound s m b) where
   handle-area a x h i =
       let t = tile-of a x h i in
       tile-parts s m b o a h (t .1) (t .2) .0
+
+  pub one-object : (a c : ℕ) (x y : Object) → a < 64 → c < 64 → In x (b .objects a) → In y (b .objects c) → x .handle ≡ y .handle → (a ≡ c) × (x ≡ y)
+  one-object a c x y h k i j e =
+      let same : a ≡ c = sym (handle-area a x h i) ∙ ap areaOf e ∙ handle-area c y k j in
+      (same, tiled-one (wordAt s m a) (bitIn s m a) (Ok (b .objects) (displayAt s) a) (λ y. handleOf y a (generationIn s a)) (usedIn s a) i (rw (← same) at j) (o .memory .tiles a h) e)
 
   pub given-in : (h : ℕ) → 0 < occurrences h (handles (b .objects (areaOf h))) → (x : Object) × In x (b .objects (areaOf h)) × (x .handle ≡ h)
   given-in h p = handles-in h (b .objects (areaOf h)) p

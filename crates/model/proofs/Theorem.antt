@@ -23,7 +23,7 @@ use Rattle.model.proofs.Agrees.{same-first}
 use Rattle.model.proofs.NestingClaims.{started, stacks, opens, parents, displays, dropped, order, looks, walked, scanned}
 use Rattle.model.proofs.Live.{live-given, given-live, dead-not}
 use Rattle.model.proofs.KeepsMemory.{sound-first}
-use Rattle.model.proofs.MemoryClaims.{slot-holds, no-15, given-in, in-given}
+use Rattle.model.proofs.MemoryClaims.{one-object, slot-holds, no-15, given-in, in-given}
 use Rattle.model.proofs.Outcomes.{accepted, refused, lineOf, sound-line, unfit, unfit-use}
 use Rattle.model.proofs.Traces.{none-in, on-or, none-on, born, gone-run, among-some, area-below, open-area}
 
@@ -163,6 +163,8 @@ module _ (w : World) (o : Told w) where
         (λ n. inr (given-names (wordAt (w .state) (w .memory) a (suc (offsetOf (x .handle) + j))) (n .given)))
         (slot-holds (w .state) (w .memory) b sound a x i (area-below (w .state) (w .memory) b sound a x i) j h);
     handles = λ x. (λ e. given-names x (live-given (w .state) (w .memory) b sound x e), names-live x);
+    unique = λ a c x y i j e. one-object (w .state) (w .memory) b sound a c x y
+        (area-below (w .state) (w .memory) b sound a x i) (area-below (w .state) (w .memory) b sound c y j) i j e;
     gone = gone-after;
     looks = looks (w .state) b (sound .good) (sound .same);
     walked = walked (w .state) b (sound .good) (sound .same);

@@ -149,6 +149,19 @@ tiled-in {wd} {bit} {ok} {mk} {o} n (later {x = x} i) z =
     let r : (m : ℕ) × Tile wd bit ok mk o m × (m ≤ place x) = tiled-in (place x) i (z .1) in
     (r .0, r .1, omega (arith, r .2, z .0 .ends))
 
+-- an object starts below the one that was made after it, so no two have one handle
+module _ (wd : ℕ → ℕ) (bit : ℕ → Bool) (ok : ℕ → Type 0) (mk : ℕ → ℕ) where
+  below-newer : {o : Object} {os : List Object} (x : Object) → In o os → Tiled wd bit ok mk os (place x) → place o < place x
+  below-newer {o} x i z =
+      let t : (m : ℕ) × Tile wd bit ok mk o m × (m ≤ place x) = tiled-in (place x) i z in
+      omega (arith, t .1 .ends, t .2)
+
+  pub tiled-one : {o p : Object} {os : List Object} (n : ℕ) → In o os → In p os → Tiled wd bit ok mk os n → o .handle ≡ p .handle → o ≡ p
+  tiled-one n first first z e = refl
+  tiled-one {o} n first (later j) z e = absurd (omega (arith, below-newer o j (z .1), ap offsetOf e))
+  tiled-one {p = p} n (later i) first z e = absurd (omega (arith, below-newer p i (z .1), ap offsetOf e))
+  tiled-one n (later {x = x} i) (later j) z e = tiled-one (place x) i j (z .1) e
+
 pub in-some : {o : Object} {os : List Object} → In o os → 0 < length os
 in-some first = omega arith
 in-some (later i) = omega (arith, in-some i)

@@ -113,6 +113,8 @@ pub record Claims (w : World) (b : History) : Type 0 where
       ⊎ Names b (w .trace) (wordAt (w .state) (w .memory) a (suc (offsetOf (o .handle) + i)))
   -- 4. "A number is a live handle exactly when an allocation gave it for a live object"
   pub handles : (x : ℕ) → (live (w .state) (w .memory) x ≡ true) ↔ Names b (w .trace) x
+  -- "names the object with that handle": no two live objects have one handle
+  pub unique : (a c : ℕ) (o p : Object) → In o (b .objects a) → In p (b .objects c) → o .handle ≡ p .handle → (a ≡ c) × (o ≡ p)
   -- 5. "a handle whose object is gone is never accepted as one again": not after any rest of the list
   pub gone : (rest : List Element) (x : ℕ) → Among x (b .gone) → live (run w rest .state) (run w rest .memory) x ≡ false
   -- 6. "The display's verdict equals a walk of the parents for any two open scopes, and a scan of a thread's stack when both stand on it."

@@ -1,12 +1,15 @@
 -- The object that a handle leads to.
 -- Assumes nothing.
 use Prim.Native.Nat.{ℕ, suc, _+_}
+use mathlib.Core.Bool.{not}
+use mathlib.Core.Logic.{_≢_}
+use mathlib.Core.Path.{_≡_}
 use lib.Dec.{leb}
-use Rattle.layout.specs.Choice.{pick}
+use Rattle.layout.specs.Choice.{pick, refuse}
 use Rattle.layout.specs.Handle.{offsetOf, areaOf}
 use Rattle.layout.specs.Header.{slotsOf, dataOf}
 use Rattle.model.specs.State.{State, Memory, areaAt}
-use Rattle.model.specs.Checks.{headerAt, live}
+use Rattle.model.specs.Checks.{headerAt, live, isObject, isReference}
 use Rattle.objects.specs.declared.find.Object.{Object}
 use Rattle.objects.specs.declared.find.Found.{Found}
 use Rattle.objects.specs.declared.find.Found.the-variants.{At, Nothing}
@@ -28,6 +31,11 @@ foundOf s m h = pick (live s m h) (At (objectOf s m h)) Nothing
 abbrev pub refusalOf : ℕ → Found → ℕ
 refusalOf n (At o) = 0
 refusalOf n Nothing = n
+
+-- what the number of a look-up's answer says: of an object's handle, and of a target or a loaded word
+pub record Numbered (s : State) (m : Memory) (h : ℕ) (r : Found) : Type 0 where
+  pub as-object : refusalOf 13 r ≡ refuse (not (isObject s m h)) 13 0
+  pub as-reference : h ≢ 0 → refusalOf 15 r ≡ refuse (not (isReference s m h)) 15 0
 
 -- the object of a header at an offset, where it "ends within the used words"
 unfoldable pub endsOf : ℕ → ℕ → ℕ → ℕ → ℕ → Found

@@ -17,8 +17,9 @@ use Rattle.model.specs.State.{State, Memory, areaAt, isScope, isOpen, storeOf, 
 use Rattle.model.specs.Checks.{fits, headerAt, live, isObject, isReference}
 use Rattle.model.specs.Invariant.{Good}
 use Rattle.objects.specs.declared.find.Object.{Object}
+use Rattle.objects.specs.declared.find.Found.{Found}
 use Rattle.objects.specs.declared.find.Found.the-variants.{At, Nothing}
-use Rattle.objects.specs.Found.{objectOf, foundOf, refusalOf}
+use Rattle.objects.specs.Found.{objectOf, foundOf, Numbered}
 
 -- ---- the words of an area
 
@@ -166,13 +167,12 @@ object-live s m p g =
     (λ e. rw e refl)
 
 -- the numbers of what a lookup finds are those of refusals 13 and 15
-pub object-number : (s : State) (m : Memory) (p : ℕ) → Good s → refusalOf 13 (foundOf s m p) ≡ refuse (not (isObject s m p)) 13 0
-unfolding foundOf refuse
-object-number s m p g = rw (object-live s m p g) (cases (live s m p) (λ e. rw e) (λ e. rw e))
-
-pub reference-number : (s : State) (m : Memory) (x : ℕ) → x ≢ 0 → refusalOf 15 (foundOf s m x) ≡ refuse (not (isReference s m x)) 15 0
+pub numbered : (s : State) (m : Memory) (h : ℕ) → Good s → {r : Found} → r ≡ foundOf s m h → (r ≡ foundOf s m h) × Numbered s m h r
 unfolding foundOf refuse isReference
-reference-number s m x n = rw (ne-eqb x 0 n) (cases (live s m x) (λ e. rw e) (λ e. rw e))
+numbered s m h g e = (e, record {
+  as-object = rw (e, object-live s m h g) (cases (live s m h) (λ k. rw k) (λ k. rw k));
+  as-reference = λ n. rw (e, ne-eqb h 0 n) (cases (live s m h) (λ k. rw k) (λ k. rw k));
+})
 
 -- ---- the object that a handle leads to
 

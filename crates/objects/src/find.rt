@@ -11,7 +11,7 @@ ghost use Rattle.model.specs.State.{isScope};
 ghost use Rattle.model.specs.Checks.{fits};
 ghost use Rattle.tables.specs.Decode.{stateOf};
 ghost use Rattle.tables.specs.Contract.{memoryOf, Ready};
-ghost use Rattle.objects.specs.Found.{foundOf, endsOf};
+ghost use Rattle.objects.specs.Found.{foundOf, Numbered, endsOf};
 
 // An object: its area, the place of its header in its store, its slots and its data words.
 pub struct Object {
@@ -77,6 +77,7 @@ pub fn lookup(
 ) -> Found
     requires { ⌜ Ready (now words) (now bytes) × (fits (stateOf (now words) (now bytes)) (memoryOf (now permanent) (now scratch) (now map)) ≡ true) ⌝ }
     ensures { λ r. ⌜ r ≡ foundOf (stateOf (now (words .entry)) (now (bytes .entry))) (memoryOf (now (permanent .entry)) (now (scratch .entry)) (now (map .entry))) handle ⌝ }
+    ensures { λ r. ⌜ Numbered (stateOf (now (words .entry)) (now (bytes .entry))) (memoryOf (now (permanent .entry)) (now (scratch .entry)) (now (map .entry))) handle r ⌝ }
 {
     let area = handle::area(handle);
     let offset = handle::offset(handle);

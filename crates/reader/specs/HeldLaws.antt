@@ -22,65 +22,44 @@ use Rattle.tables.specs.Cut.{put}
 use Rattle.lines.specs.declared.frame.Fields.{Fields}
 use Rattle.lines.specs.declared.frame.Line.{Line}
 use Rattle.lines.specs.declared.frame.Line.the-variants.{Frame, Bad}
-use Rattle.lines.specs.Frames.{fieldsOf, isFrame}
 use Rattle.digits.specs.Answers.{answerOf}
-use Rattle.reader.specs.Output.{callOf, lineAnswer, afterLine, firstWorld}
+use Rattle.reader.specs.Output.{answerTo, following, lineAnswer, afterLine, firstWorld}
 use Rattle.digits.specs.AnswerLaws.{length-answer, put-nothing}
-use Rattle.lines.specs.Lines.{Holds, Means}
+use Rattle.lines.specs.Lines.{Holds, lineOf}
 use Rattle.lines.specs.LineLaws.{holds-none}
 use Rattle.reader.specs.Feeding.{finished, finished-none, finished-rest, fed-none, fed-end, fed-other}
 use Rattle.reader.specs.Held.{Core, core, Stands, Called, Answered, Ended, Held, held, Leaves, Feeds, Finishes, feeds-append}
 
 -- ---- a line answered
 
-bad-answer : (w : World) (l : List ℕ) → isFrame l ≡ false → answerOf 18 0 ≡ lineAnswer w l
-unfolding lineAnswer
-bad-answer w l e = rw e refl
-
-bad-after : (w : World) (l : List ℕ) → isFrame l ≡ false → w ≡ afterLine w l
-unfolding afterLine
-bad-after w l e = rw e refl
-
-frame-answer : (w : World) (l : List ℕ) → isFrame l ≡ true
-    → answerOf (outcomeOf (w .state) (w .memory) (callOf (fieldsOf l)) .reply .status) (outcomeOf (w .state) (w .memory) (callOf (fieldsOf l)) .reply .value) ≡ lineAnswer w l
-unfolding lineAnswer
-frame-answer w l e = rw e refl
-
-frame-after : (w : World) (l : List ℕ) → isFrame l ≡ true → step w (record { call = callOf (fieldsOf l); supplied = kept }) ≡ afterLine w l
-unfolding afterLine
-frame-after w l e = rw e refl
-
 -- an answer is 19 bytes
+length-to : (w : World) (x : Line) → length (answerTo w x) ≡ 19
+length-to w (Frame f) = length-answer _ _
+length-to w Bad = length-answer 18 0
+
 pub length-line : (w : World) (l : List ℕ) → length (lineAnswer w l) ≡ 19
-length-line w l =
-    cases (isFrame l)
-    (λ e. ap length (sym (frame-answer w l e)) ∙ length-answer _ _)
-    (λ e. ap length (sym (bad-answer w l e)) ∙ length-answer 18 0)
+unfolding lineAnswer
+length-line w l = length-to w (lineOf l)
 
 -- any other line gives 18 and changes nothing
 pub answered-bad : (k : Core) (line : List ℕ) (len : ℕ) (r : Line) → Ready (k .words) (k .bytes) → r ≡ Bad
-    → ((l : List ℕ) → Holds line len l → Means r l) → Answered k k line len (record { status = 18; value = 0 })
+    → ((l : List ℕ) → Holds line len l → r ≡ lineOf l) → Answered k k line len (record { status = 18; value = 0 })
+unfolding lineAnswer afterLine
 answered-bad k line len r y e m = record {
   ready = y;
-  answer-is = λ w l s h. bad-answer w l (rw e at (m l h));
-  steps = λ w l s h. rw (← bad-after w l (rw e at (m l h))) s;
+  answer-is = λ w l s h. ap (answerTo w) (sym e ∙ m l h);
+  steps = λ w l s h. subst (λ (x : Line). Stands k (following w x)) (sym e ∙ m l h) s;
 }
 
 -- a frame's call is carried out
 pub answered-frame : (k n : Core) (line : List ℕ) (len : ℕ) (r : Line) (f : Fields) (a : Answer) → r ≡ Frame f
-    → ((l : List ℕ) → Holds line len l → Means r l) → Called k n f a → Answered k n line len a
+    → ((l : List ℕ) → Holds line len l → r ≡ lineOf l) → Called k n f a → Answered k n line len a
+unfolding lineAnswer afterLine
 answered-frame k n line len r f a e m c = record {
   ready = c .ready;
-  answer-is = λ w l s h.
-      let t = told l h in
-      rw (c .status-is w s, c .value-is w s, t .1) (frame-answer w l (t .0));
-  steps = λ w l s h.
-      let t = told l h in
-      rw (← frame-after w l (t .0), ← t .1) (c .steps w s);
+  answer-is = λ w l s h. rw (c .status-is w s, c .value-is w s) (ap (answerTo w) (sym e ∙ m l h));
+  steps = λ w l s h. subst (λ (x : Line). Stands n (following w x)) (sym e ∙ m l h) (c .steps w s);
 }
-  where
-    told : (l : List ℕ) → Holds line len l → (isFrame l ≡ true) × (f ≡ fieldsOf l)
-    told l h = rw e at (m l h)
 
 -- the answer is written
 pub ended : (k n : Core) (line : List ℕ) (len : ℕ) (a : Answer) (out : List ℕ) (at : ℕ) (written : List ℕ)

@@ -8,7 +8,9 @@ use Rattle.layout.specs.Choice.{pick}
 use Rattle.model.specs.Calls.{Call, outcomeOf, start, end, make, enter, exit, allocate, store, load, write, read}
 use Rattle.model.specs.Run.{World, kept, step, begin}
 use Rattle.lines.specs.declared.frame.Fields.{Fields}
-use Rattle.lines.specs.Frames.{fieldsOf, isFrame}
+use Rattle.lines.specs.declared.frame.Line.{Line}
+use Rattle.lines.specs.declared.frame.Line.the-variants.{Frame, Bad}
+use Rattle.lines.specs.Lines.{lineOf}
 use Rattle.digits.specs.Answers.{answerOf}
 
 -- the call of an op that exists, by its number; 10 is 0a
@@ -25,15 +27,22 @@ callOf f =
     (pick (eqb (f .op) 9) (write (f .thread) (f .p) (f .q) (f .r))
     (read (f .thread) (f .p) (f .q))))))))))
 
--- "Any other line gives 18 and is skipped to its line feed"
+-- the answer to each case of a line: a frame's is its call's; "Any other line gives 18 and is skipped to its line feed"
+abbrev pub answerTo : World → Line → List ℕ
+answerTo w (Frame f) = answerOf (outcomeOf (w .state) (w .memory) (callOf f) .reply .status) (outcomeOf (w .state) (w .memory) (callOf f) .reply .value)
+answerTo w Bad = answerOf 18 0
+
+-- what each case leaves
+abbrev pub following : World → Line → World
+following w (Frame f) = step w (record { call = callOf f; supplied = kept })
+following w Bad = w
+
+-- "Each line is answered by a line"
 unfoldable pub lineAnswer : World → List ℕ → List ℕ
-lineAnswer w l =
-    pick (isFrame l)
-    (answerOf (outcomeOf (w .state) (w .memory) (callOf (fieldsOf l)) .reply .status) (outcomeOf (w .state) (w .memory) (callOf (fieldsOf l)) .reply .value))
-    (answerOf 18 0)
+lineAnswer w l = answerTo w (lineOf l)
 
 unfoldable pub afterLine : World → List ℕ → World
-afterLine w l = pick (isFrame l) (step w (record { call = callOf (fieldsOf l); supplied = kept })) w
+afterLine w l = following w (lineOf l)
 
 -- a line feed ends a line; "The last line feed may be missing": what follows the last one is a line unless it is empty. The bytes of the
 -- line so far come first, then the input.

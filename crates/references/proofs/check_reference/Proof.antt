@@ -30,7 +30,7 @@ abbrev past : tie.After-known-told → tie.Else1
 past c = c .before .before .before .before
 
 seen : (c : tie.After-known-told) → At (c .before .o .given .0 .0) ≡ foundOf (state (past c)) (memory (past c)) (start (past c) .args .x)
-seen c = sym (c .before .o .given .1) ∙ c .before .before .before .lookup .ensures
+seen c = sym (c .before .o .given .1) ∙ c .before .before .before .lookup .ensures .0
 
 right : (c : tie.After-allowed-in) → hasRight (state (past (c .before .before))) (start (past (c .before .before)) .args .t) Refer (c .before .before .before .o .given .0 .0 .area) ≡ c .allowed-in .result
 right c =
@@ -50,7 +50,7 @@ enum-told : tie.Need-enum-told
 enum-told c = search needs
 
 returns-2 : tie.Need-returns-2
-returns-2 c = reference-nothing _ _ _ _ (c .before .before .before .if1 .left) (sym (c .enum-told .given .1) ∙ c .before .before .lookup .ensures)
+returns-2 c = reference-nothing _ _ _ _ (c .before .before .before .if1 .left) (sym (c .enum-told .given .1) ∙ c .before .before .lookup .ensures .0)
 
 kind-at-requires : tie.Need-kind-at-requires
 kind-at-requires c κs = start (past c) .pre .1

@@ -29,7 +29,7 @@ abbrev past : tie.After-known-told → tie.After-lookup
 past c = c .before .before .before
 
 seen : (c : tie.After-known-told) → At (c .before .o .given .0 .0) ≡ foundOf (state (past c)) (memory (past c)) (start (past c) .args .p)
-seen c = sym (c .before .o .given .1) ∙ past c .lookup .ensures
+seen c = sym (c .before .o .given .1) ∙ past c .lookup .ensures .0
 
 lookup-requires : tie.Need-lookup-requires
 lookup-requires c κs =
@@ -45,7 +45,7 @@ enum-told c = search needs
 returns : tie.Need-returns
 returns c =
     let d = c .before .before in
-    refused-spot _ (λ z. omega arith) (use-nothing _ _ _ _ (start d .pre .0 .good) (start d .pre .1) (sym (c .enum-told .given .1) ∙ d .lookup .ensures))
+    refused-spot _ (λ z. omega arith) (use-nothing _ _ _ _ (start d .pre .0 .good) (start d .pre .1) (sym (c .enum-told .given .1) ∙ d .lookup .ensures .0))
 
 may-use-requires : tie.Need-may-use-requires
 may-use-requires c κs = start (past c) .pre .1 .thread
