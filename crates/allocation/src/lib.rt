@@ -6,7 +6,7 @@ use rights::Right;
 use tables::Bytes;
 use tables::Words;
 ghost use mathlib.Core.Path.{_≡_};
-ghost use Prim.Native.Nat.{_+_, _*_, _<_, _≤_};
+ghost use Prim.Native.Nat.{_+_, _*_, _≤_};
 ghost use lib.ListN.{length};
 ghost use Rattle.layout.specs.Choice.{pick};
 ghost use Rattle.model.specs.State.{isScope};

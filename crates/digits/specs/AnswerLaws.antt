@@ -44,13 +44,13 @@ length-answer s v =
 pub record Lowest (first : List ℕ) (at v n rest i : ℕ) (l : List ℕ) : Type 0 where
   pub within : i ≤ n
   pub left : rest ≡ v / 16 ^ (n - i)
-  pub shown : l ≡ put first (at + i) (digitsOf v (n - i))
+  pub written : l ≡ put first (at + i) (digitsOf v (n - i))
 
 pub lowest-none : (l : List ℕ) (at v n : ℕ) → Lowest l at v n v n l
 unfolding digitsOf
 lowest-none l at v n =
     let e : n - n ≡ 0 = omega arith in
-    record { within = omega arith; left = rw e (omega arith); shown = rw e (put-nothing l (at + n)) }
+    record { within = omega arith; left = rw e (omega arith); written = rw e (put-nothing l (at + n)) }
 
 -- the digit before those that are written
 pub lowest-more : (l first : List ℕ) (at v n rest i : ℕ) → 0 < i → Lowest first at v n rest i l
@@ -62,17 +62,17 @@ lowest-more l first at v n rest i h s =
     record {
       within = omega (arith, s .within);
       left = rw (k, s .left, pow-suc 16 (n - i)) (div-div-eq-div-mul v (16 ^ (n - i)) 16);
-      shown = rw (k, s .shown, f, s .left) (put-before first (at + (i - 1)) (digitOf (v / 16 ^ (n - i) % 16)) (digitsOf v (n - i)));
+      written = rw (k, s .written, f, s .left) (put-before first (at + (i - 1)) (digitOf (v / 16 ^ (n - i) % 16)) (digitsOf v (n - i)));
     }
 
 pub lowest-all : (l first : List ℕ) (at v n rest i : ℕ) → i ≤ 0 → Lowest first at v n rest i l → l ≡ put first at (digitsOf v n)
 lowest-all l first at v n rest i h s =
     let e : at + i ≡ at = omega arith in
     let f : n - i ≡ n = omega arith in
-    rw (e, f) at (s .shown)
+    rw (e, f) at (s .written)
 
 pub lowest-length : (l first : List ℕ) (at v n rest i : ℕ) → Lowest first at v n rest i l → length l ≡ length first
-lowest-length l first at v n rest i s = rw (s .shown) (length-put first (at + i) (digitsOf v (n - i)))
+lowest-length l first at v n rest i s = rw (s .written) (length-put first (at + i) (digitsOf v (n - i)))
 
 -- ---- an answer
 

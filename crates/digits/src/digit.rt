@@ -4,7 +4,7 @@ ghost use mathlib.Core.Bool.{true};
 ghost use lib.ListN.{length};
 ghost use Rattle.digits.specs.Hexadecimal.{isDigit, digitValue, allDigits, fieldOf, Digits};
 
-// What is kept of a line: a frame is no longer.
+// What is kept of a line: as many bytes as a frame has.
 pub type Text = [u8; 40];
 
 // 0 to 9, a to f.

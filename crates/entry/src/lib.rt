@@ -91,9 +91,9 @@ fn opened_area(x: Area, parent: u64, depth: Depth) -> Area
     }
 }
 
-// The display of scope q, which opens below p: that of p, with q last. The copied row is put first and
-// its one new entry behind it: read back as a whole, it would have to wait for that byte.
-fn show(bytes: &mut Bytes, q: usize, p: usize, depth: Depth)
+// The display of scope q, which opens below p: that of p, with q last. The copied row is written first
+// and then its one new entry: a row with one byte just stored would stall when it is read back.
+fn put_display(bytes: &mut Bytes, q: usize, p: usize, depth: Depth)
     requires { ⌜ (q < 64) × (p < 64) × (depth .0 < 32) ⌝ }
     ensures { λ u. ⌜ now (bytes .exit) ≡ putRow (now (bytes .entry)) q (extendedRow (rowOf (now (bytes .entry)) p) (depth .0) q) ⌝ }
 {
@@ -122,7 +122,7 @@ fn enter_area(words: &mut Words, bytes: &mut Bytes, q: usize, p: usize) -> u64
     let depth = Depth(tables::area_at(words, p).depth as usize);
     let y = opened_area(x, p as u64, depth);
     tables::put_area(words, q, y);
-    show(bytes, q, p, depth);
+    put_display(bytes, q, p, depth);
     y.generation
 }
 

@@ -27,7 +27,7 @@ fn failed() -> Progress {
     }
 }
 
-// Writes answers. Whether all were written; if not, it is told.
+// Writes answers. Whether all were written; if not, standard error says so.
 fn write_answers(answers: &[u8]) -> bool {
     let is_written = io::write_all(STDOUT_FILENO, answers);
     if !is_written {

@@ -1,6 +1,5 @@
 // One thread's scope stack as a record of its own, by value, and places on a stack.
 ghost use mathlib.Core.Path.{_≡_};
-ghost use Prim.Native.Nat.{_<_};
 ghost use Rattle.layout.specs.Stack.{emptyStack, heightOf, pushAnswer, pushedStack, popAnswer, poppedStack};
 
 // An entry's place on a stack, from 0 at the bottom. A heap or immortal entry takes a place and no

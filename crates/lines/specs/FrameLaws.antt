@@ -16,11 +16,6 @@ use Rattle.lines.specs.Lines.{Holds}
 
 -- ---- frames
 
--- a line longer than 40 is no frame, whatever it holds
-pub long-line : (l : List ℕ) → 40 < length l → isFrame l ≡ false
-unfolding isFrame
-long-line l h = rw (ne-eqb (length l) 40 (λ e. omega arith)) refl
-
 -- the four tests of a frame, on 40 bytes
 module _ (l : List ℕ) (e : length l ≡ 40) where
   no-digits : allDigits l ≡ false → isFrame l ≡ false

@@ -126,10 +126,3 @@ module _ (s : State) (g : Good s) where
         (λ h. omega (arith, g .standing a h .depth))
         (λ h z. omega (arith, g .scopes a h k .no-depth z))
         (λ h o. omega (arith, open-nested a h k o .2, ap length (open-nested a h k o .1 .0 .display-is), length-display a))
-
-    pub parent-bound : areaAt s a .parent < 64
-    parent-bound =
-        by-area s a
-        (λ h. omega (arith, g .standing a h .parent))
-        (λ h z. omega (arith, g .scopes a h k .no-parent z))
-        (λ h o. let z = open-nested a h k o in rw (z .1 .0 .parent-is) (current-nested (parentIn s) (displayAt s) (z .0) (z .1 .1)))

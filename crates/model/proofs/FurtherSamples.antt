@@ -20,7 +20,7 @@ use Rattle.model.specs.Scopes.{makeStatus, makeState, otherParent, worn,
 use Rattle.model.specs.Objects.{allocateStatus, allocateState, filled, objectWords, objectBits, allocateMemory, allocateValue}
 use Rattle.model.specs.References.{mayRefer, storeAfter, slotStatus, referenceStatus, storeStatus, loadStatus}
 use Rattle.model.specs.Data.{dataStatus, viewStatus, viewWords}
-use Rattle.model.specs.Calls.{Call, start, end, make, enter, exit, allocate, store, load, outcomeOf, write, read, viewed}
+use Rattle.model.specs.Calls.{Call, start, end, make, enter, exit, allocate, load, outcomeOf, write, read, viewed}
 use Rattle.model.specs.Run.{run, World, kept, step, begin, Element}
 
 -- 4 words each of heap and immortal, 16 of scratch

@@ -47,22 +47,6 @@ module _ (s : State) (t q : ℕ) where
 
   -- ---- what is as it was
 
-  pub enter-lengths : enterState s t q .lengths ≡ s .lengths
-  unfolding withThread withArea withRow
-  enter-lengths =
-      by-area s q
-      (λ h. ap (λ (r : State). r .lengths) (enter-is-low h))
-      (λ h z. ap (λ (r : State). r .lengths) (enter-is-fresh h z))
-      (λ h o. ap (λ (r : State). r .lengths) (enter-is-open h o))
-
-  pub enter-taken : enterState s t q .taken ≡ s .taken
-  unfolding withThread withArea withRow
-  enter-taken =
-      by-area s q
-      (λ h. ap (λ (r : State). r .taken) (enter-is-low h))
-      (λ h z. ap (λ (r : State). r .taken) (enter-is-fresh h z))
-      (λ h o. ap (λ (r : State). r .taken) (enter-is-open h o))
-
   pub enter-threads : enterState s t q .threads ≡ set (s .threads) t (pushed (threadAt s t) q)
   unfolding withThread withArea withRow
   enter-threads =

@@ -51,14 +51,6 @@ module _ (s : State) (t : ℕ) where
 
   -- ---- what is as it was
 
-  pub exit-lengths : exitState s t .lengths ≡ s .lengths
-  unfolding withThread withArea
-  exit-lengths = by-top (λ h. ap (λ (r : State). r .lengths) (exit-is-low h)) (λ h. ap (λ (r : State). r .lengths) (exit-is-scope h))
-
-  pub exit-taken : exitState s t .taken ≡ s .taken
-  unfolding withThread withArea
-  exit-taken = by-top (λ h. ap (λ (r : State). r .taken) (exit-is-low h)) (λ h. ap (λ (r : State). r .taken) (exit-is-scope h))
-
   pub exit-threads : exitState s t .threads ≡ set (s .threads) t (popped (threadAt s t))
   unfolding withThread withArea
   exit-threads = by-top (λ h. ap (λ (r : State). r .threads) (exit-is-low h)) (λ h. ap (λ (r : State). r .threads) (exit-is-scope h))

@@ -62,7 +62,7 @@ unfolding occurrences
 occ-append a [] l = omega arith
 occ-append a (x ∷ k) l = omega (arith, occ-append a k l)
 
--- the scopesOf of a row: what is no scope is passed over
+-- the scopes of a row: what is no scope is passed over
 pub scopes-low : (x : ℕ) (l : List ℕ) → x < 2 → scopesOf (x ∷ l) ≡ scopesOf l
 unfolding scopesOf
 scopes-low x l h = rw (lt-leb 2 x h)

@@ -119,8 +119,3 @@ module _ (s : State) (m : Memory) (b : History) (o : Sound s m b) where
         and-no : (t : Bool) → t && false ≡ false
         and-no true = refl
         and-no false = refl
-
-  -- null is no handle: its generation is 0, and the heap's is 1
-  pub null-not : live s m null ≡ false
-  unfolding live areaOf generationOf
-  null-not = rw (ne-eqb 0 (generationIn s 0) (λ e. omega (arith, o .good .standing 0 (omega arith) .generation)))

@@ -122,7 +122,7 @@ module _ {dis : ℕ → List ℕ} {cnt used generation : ℕ → ℕ} {wd : ℕ 
       here a l q = tiled-data (wd a) (wd′ a) (bit a) (Ok objects dis a) (λ o. handleOf o a (generation a)) p h (rw q d) (objects a) (used a) (rw q y)
           (λ j i ne. f a j l i (λ x y. ne y)) (rw q k) (m .tiles a l)
 
-  -- an object is made on first of area b
+  -- an object is made on top of area b
   pub mem-alloc : (b : ℕ) (o : Object) (used′ : ℕ → ℕ) (wd′ : ℕ → ℕ → ℕ) (bit′ : ℕ → ℕ → Bool) → b < 64
       → (2 ≤ b → 0 < cnt b)
       → place o ≡ used b → used′ b ≡ suc (used b + o .slots + o .words) → ((a : ℕ) → a ≢ b → used′ a ≡ used a)

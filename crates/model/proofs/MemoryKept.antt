@@ -19,7 +19,7 @@ use Rattle.model.specs.Checks.{fits}
 use Rattle.model.specs.History.{Object, History, occurrences, handles, putAt}
 use Rattle.model.specs.Invariant.{countIn, Good}
 use Rattle.model.proofs.Lists.{occ-nil, occ-append}
-use Rattle.model.proofs.Nesting.{shown-open}
+use Rattle.model.proofs.Nesting.{display-open}
 use Rattle.model.proofs.Memory.{Named, Kept, Bare, mem-nest, mem-frame, put-same, put-other}
 use Rattle.model.proofs.Sound.{Same, usedIn, generationIn, bitIn, Dead, Sound}
 use Rattle.model.proofs.Live.{object-tile, tile-parts}
@@ -37,7 +37,7 @@ pub record Moved (y x : Area) : Type 0 where
 pub record Still (s n : State) (a : ℕ) : Type 0 where
   pub used : usedIn n a ≡ usedIn s a
   pub generation : generationIn n a ≡ generationIn s a
-  pub shown : displayAt n a ≡ displayAt s a
+  pub display : displayAt n a ≡ displayAt s a
 
 module _ {s n : State} {a : ℕ} (u : Untouched s n a) where
   pub moved-same : Moved (areaAt s a) (areaAt n a)
@@ -47,7 +47,7 @@ module _ {s n : State} {a : ℕ} (u : Untouched s n a) where
   still-same = record {
     used = ap (λ (x : Area). x .used) (u .area);
     generation = ap (λ (x : Area). x .generation) (u .area);
-    shown = unfold displayAt in rw (u .area, u .row);
+    display = unfold displayAt in rw (u .area, u .row);
   }
 
 -- one area becomes x: what is to be known of x
@@ -62,7 +62,7 @@ module _ {s n : State} {q : ℕ} {x : Area} (e : Alters s n q x) where
   still-all r u g d a = record {
     used = same-field e (λ (z : Area). z .used) u a;
     generation = same-field e (λ (z : Area). z .generation) g a;
-    shown = unfold displayAt in rw (r a, same-field e (λ (z : Area). z .depth) d a);
+    display = unfold displayAt in rw (r a, same-field e (λ (z : Area). z .depth) d a);
   }
 
   -- no count falls to 0
@@ -117,7 +117,7 @@ module _ (s : State) (m : Memory) (b : History) (o : Sound s m b) (n : State) (c
     used-same = z .used;
     generation-same = z .generation;
     objects-same = refl;
-    names = λ x y. record { given = y .given; reach = ⊎-elim (λ r. inl r) (λ r. inr (r .0, rw (ap (occurrences (areaOf x)) (z .shown)) (r .1))) (y .reach) };
+    names = λ x y. record { given = y .given; reach = ⊎-elim (λ r. inl r) (λ r. inr (r .0, rw (ap (occurrences (areaOf x)) (z .display)) (r .1))) (y .reach) };
   }
 
   -- every area is as it was, but for counts and parents, and none shuts
@@ -150,7 +150,7 @@ module _ (s : State) (m : Memory) (b : History) (o : Sound s m b) (n : State) (c
     still-named : (a x : ℕ) → a ≢ q → areaOf x ≢ q → Named (b .objects) (displayAt s) a x → Named (putAt (b .objects) q []) (displayAt n) a x
     still-named a x ne nx y = record {
       given = rw (put-other (b .objects) q [] (areaOf x) nx) (y .given);
-      reach = ⊎-elim (λ r. inl r) (λ r. inr (r .0, rw (ap (occurrences (areaOf x)) (still-same (f a ne) .shown)) (r .1))) (y .reach);
+      reach = ⊎-elim (λ r. inl r) (λ r. inr (r .0, rw (ap (occurrences (areaOf x)) (still-same (f a ne) .display)) (r .1))) (y .reach);
     }
 
     -- an area that is open then does not refer to q: what its display has is open
@@ -162,7 +162,7 @@ module _ (s : State) (m : Memory) (b : History) (o : Sound s m b) (n : State) (c
         (λ hi. absurd (omega (
           arith,
           ap (countIn n) e,
-          shown-open (g .nesting) a (areaOf x) (hi .0) h (hi .1) (r .0) (area-lt x) (rw (ap (occurrences (areaOf x)) (still-same (f a ne) .shown)) (r .1)),
+          display-open (g .nesting) a (areaOf x) (hi .0) h (hi .1) (r .0) (area-lt x) (rw (ap (occurrences (areaOf x)) (still-same (f a ne) .display)) (r .1)),
         )))
         op)
         (y .reach)

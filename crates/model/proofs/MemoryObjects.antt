@@ -191,9 +191,9 @@ module _ (s : State) (m : Memory) (b : History) (o : Sound s m b) (c slots words
   generation-is : (a : ℕ) → generationIn n a ≡ generationIn s a
   generation-is = same-field to (λ (x : Area). x .generation) refl
 
-  shown-is : (a : ℕ) → displayAt n a ≡ displayAt s a
+  display-is : (a : ℕ) → displayAt n a ≡ displayAt s a
   unfolding displayAt
-  shown-is a = rw (allocate-rows s (o .good .areas) c hc slots words a, same-field to (λ (x : Area). x .depth) refl a)
+  display-is a = rw (allocate-rows s (o .good .areas) c hc slots words a, same-field to (λ (x : Area). x .depth) refl a)
 
   fits-then : fits n k ≡ true
   unfolding fits allocateMemory
@@ -212,7 +212,7 @@ module _ (s : State) (m : Memory) (b : History) (o : Sound s m b) (c slots words
     memory = rw eo (mem-cong
         (mem-alloc (o .memory) c made (usedIn n) (wordAt n k) (bitIn n k) hc oc at-place (ap (λ (x : Area). x .used) (to .here))
         (λ a ne. ap (λ (x : Area). x .used) (to .others a ne .area)) tile word-other bit-other)
-        (displayAt n) (countIn n) (usedIn n) (generationIn n) shown-is count-is (λ a. refl) generation-is);
+        (displayAt n) (countIn n) (usedIn n) (generationIn n) display-is count-is (λ a. refl) generation-is);
     dead = rw eg (λ h p. dead-on s n h (moved-all to record { start = λ q. refl; later = omega arith; fresh = λ q z. absurd (omega arith) } (areaOf h)) (o .dead h p));
     above = rw eo (λ a h. put-other (b .objects) c _ a (λ e. omega arith) ∙ o .above a h);
   }

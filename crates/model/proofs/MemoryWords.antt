@@ -63,10 +63,10 @@ rule-reach : (s : State) (a c : ℕ) → mayRefer s a c ≡ true → Reach (disp
 unfolding mayRefer
 rule-reach s a c e = cases (ltb c 2)
     (λ z. inl (ltb-true c 2 z))
-    (λ z. inr (ltb-false c 2 z, shown (ltb-false c 2 z) (rw z at e)))
+    (λ z. inr (ltb-false c 2 z, on-display (ltb-false c 2 z) (rw z at e)))
   where
-    shown : 2 ≤ c → displayHolds s c a ≡ true → 0 < occurrences c (displayAt s a)
-    shown h f = unfold displayHolds displayAt in
+    on-display : 2 ≤ c → displayHolds s c a ≡ true → 0 < occurrences c (displayAt s a)
+    on-display h f = unfold displayHolds displayAt in
         let x = and-true (leb (areaAt s c .depth) (areaAt s a .depth)) (rowHolds (rowAt s a) (areaAt s c .depth) c) f in
         let y = holds-entry (rowAt s a) (areaAt s c .depth) c (x .1) in
         occ-down (parentIn s) (displayAt s) c h (rowAt s a) (areaAt s a .depth) (areaAt s c .depth - 1)

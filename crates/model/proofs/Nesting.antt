@@ -1,7 +1,6 @@
 -- The nesting of the stacks, over what is seen of a state: a parent, a display and a count for each area, and the rows.
 -- Assumes nothing.
 use Prim.Native.Nat.{ℕ, suc, _+_, _≤_, _<_}
-use mathlib.Core.Bool.{not}
 use mathlib.Core.List.{List, [], _∷_}
 use mathlib.Core.Path.{_≡_, refl, sym, ap, _∙_}
 use mathlib.Core.Logic.{_≢_}
@@ -50,19 +49,19 @@ nested-at par dis a (x ∷ l) n h =
 
 -- ---- one row is replaced
 
--- q alone onRow changed, and is not on l
+-- q alone has changed, and is not on l
 pub nested-but : (par par′ : ℕ → ℕ) (dis dis′ : ℕ → List ℕ) (q : ℕ) (l : List ℕ)
     → ((a : ℕ) → a ≢ q → (par′ a ≡ par a) × (dis′ a ≡ dis a)) → occurrences q l ≡ 0 → Nested par dis l → Nested par′ dis′ l
 nested-but par par′ dis dis′ q l f z n =
     nested-frame par par′ dis dis′ l (λ a h. f a (λ e. absurd (omega (arith, ap (λ (x : ℕ). occurrences x l) e)))) n
 
 module _ {par : ℕ → ℕ} {dis : ℕ → List ℕ} {cnt : ℕ → ℕ} {rows : List (List ℕ)} (v : Nesting par dis cnt rows) (t : ℕ) (ht : t < 16) where
-  pub view-set : (par′ : ℕ → ℕ) (dis′ : ℕ → List ℕ) (cnt′ : ℕ → ℕ) (r : List ℕ)
+  pub nesting-set : (par′ : ℕ → ℕ) (dis′ : ℕ → List ℕ) (cnt′ : ℕ → ℕ) (r : List ℕ)
       → ((a : ℕ) → 2 ≤ a → a < 64 → cnt′ a + occurrences a (getD rows t []) ≡ cnt a + occurrences a r)
       → ((u : ℕ) → u < 16 → u ≢ t → Nested par′ dis′ (scopesOf (getD rows u [])))
       → Nested par′ dis′ (scopesOf r)
       → Nesting par′ dis′ cnt′ (set rows t r)
-  view-set par′ dis′ cnt′ r c f n = record {
+  nesting-set par′ dis′ cnt′ r c f n = record {
     size = length-set rows t r ∙ v .size;
     counts = λ a h k. omega (arith, c a h k, v .counts a h k, total-set a rows t r (omega (arith, v .size)));
     nested = λ u h. cases (eqb u t)
@@ -73,12 +72,12 @@ module _ {par : ℕ → ℕ} {dis : ℕ → List ℕ} {cnt : ℕ → ℕ} {rows 
   -- heap or immortal is entered
   pub enter-low : (q : ℕ) → q < 2 → Nesting par dis cnt (set rows t (q ∷ getD rows t []))
   enter-low q h =
-      view-set par dis cnt (q ∷ getD rows t [])
+      nesting-set par dis cnt (q ∷ getD rows t [])
       (λ a k m. rw (occ-other a q (getD rows t []) (λ e. omega arith)))
       (λ u k m. v .nested u k)
       (rw (scopes-low q (getD rows t []) h) (v .nested t ht))
 
-  -- scope q onRow a count that is one higher, and every other area the count it had
+  -- scope q has a count that is one higher, and every other area the count it had
   abbrev pub OneMore : ℕ → (ℕ → ℕ) → Type 0
   OneMore q cnt′ = (cnt′ q ≡ suc (cnt q)) × ((a : ℕ) → a ≢ q → cnt′ a ≡ cnt a)
 
@@ -93,7 +92,7 @@ module _ {par : ℕ → ℕ} {dis : ℕ → List ℕ} {cnt : ℕ → ℕ} {rows 
       → par q ≡ current (scopesOf (getD rows t [])) → OneMore q cnt′
       → ((a : ℕ) → (par′ a ≡ par a) × (dis′ a ≡ dis a)) → Nesting par′ dis′ cnt′ (set rows t (q ∷ getD rows t []))
   enter-open q par′ dis′ cnt′ h k o p m f =
-      view-set par′ dis′ cnt′ (q ∷ row)
+      nesting-set par′ dis′ cnt′ (q ∷ row)
       (counted q cnt′ m)
       (λ u hu ne. nested-frame par par′ dis dis′ (scopesOf (getD rows u [])) (λ a x. f a) (v .nested u hu))
       (rw (scopes-high q row h) (nested-frame par par′ dis dis′ (q ∷ scopesOf row) (λ a x. f a) (link, v .nested t ht)))
@@ -122,7 +121,7 @@ module _ {par : ℕ → ℕ} {dis : ℕ → List ℕ} {cnt : ℕ → ℕ} {rows 
       → par′ q ≡ current (scopesOf (getD rows t [])) → dis′ q ≡ q ∷ scopesOf (getD rows t []) → OneMore q cnt′
       → ((a : ℕ) → a ≢ q → (par′ a ≡ par a) × (dis′ a ≡ dis a)) → Nesting par′ dis′ cnt′ (set rows t (q ∷ getD rows t []))
   enter-fresh q par′ dis′ cnt′ h k z p d m f =
-      view-set par′ dis′ cnt′ (q ∷ getD rows t [])
+      nesting-set par′ dis′ cnt′ (q ∷ getD rows t [])
       (counted q cnt′ m)
       (λ u hu ne. other u hu)
       (rw (scopes-high q (getD rows t []) h) (record { scope = h; area = k; parent-is = p; display-is = d }, other t ht))
@@ -134,7 +133,7 @@ module _ {par : ℕ → ℕ} {dis : ℕ → List ℕ} {cnt : ℕ → ℕ} {rows 
     -- heap or immortal is left
     pub exit-low : q < 2 → Nesting par dis cnt (set rows t r)
     exit-low h =
-        view-set par dis cnt r
+        nesting-set par dis cnt r
         (λ a k m. rw (is, occ-other a q r (λ e. omega arith)))
         (λ u k m. v .nested u k)
         (rw (is, scopes-low q r h) at (v .nested t ht))
@@ -150,7 +149,7 @@ module _ {par : ℕ → ℕ} {dis : ℕ → List ℕ} {cnt : ℕ → ℕ} {rows 
         → ((a : ℕ) → a ≢ q → (par′ a ≡ par a) × (dis′ a ≡ dis a)) → (0 < cnt′ q → (par′ q ≡ par q) × (dis′ q ≡ dis q))
         → Nesting par′ dis′ cnt′ (set rows t r)
     exit-scope par′ dis′ cnt′ h m f g =
-        view-set par′ dis′ cnt′ r
+        nesting-set par′ dis′ cnt′ r
         (λ a k l. cases (eqb a q)
         (λ e. rw (eqb-true a q e, is) (omega (arith, occ-same q r, m .0)))
         (λ e. rw is (omega (arith, occ-other a q r (λ d. eqb-false a q e (sym d)), m .1 a (eqb-false a q e)))))
@@ -181,7 +180,7 @@ module _ {par : ℕ → ℕ} {dis : ℕ → List ℕ} {cnt : ℕ → ℕ} {rows 
             (λ e. nested-frame par par′ dis dis′ l (λ a x. cases (eqb a q) (λ y. rw (eqb-true a q y) (g (ltb-true 0 (cnt′ q) e))) (λ y. f a (eqb-false a q y))) n)
             (λ e. nested-but par par′ dis dis′ q l f (z (omega (arith, ltb-false 0 (cnt′ q) e))) n)
 
--- the part of a nesting from a down onRow no more of any scope than the nesting
+-- the part of a nesting from a down has no more of any scope than the nesting
 pub nested-part : (par : ℕ → ℕ) (dis : ℕ → List ℕ) (a : ℕ) (l : List ℕ) → Nested par dis l → 0 < occurrences a l
     → (k : List ℕ) × Nested par dis (a ∷ k) × ((c : ℕ) → occurrences c (a ∷ k) ≤ occurrences c l)
 unfolding occurrences
@@ -195,10 +194,10 @@ nested-part par dis a (x ∷ l) n h =
     = nested-part par dis a l (n .1) (rw (occ-other a x l (eqb-false x a e)) at h) in
     (z .0, z .1, λ c. omega (arith, z .2 c)))
 
--- the scopesOf that an open scope's display onRow are open
-pub shown-open : {par : ℕ → ℕ} {dis : ℕ → List ℕ} {cnt : ℕ → ℕ} {rows : List (List ℕ)} (v : Nesting par dis cnt rows) (a c : ℕ)
+-- the scopes that an open scope's display has are open
+pub display-open : {par : ℕ → ℕ} {dis : ℕ → List ℕ} {cnt : ℕ → ℕ} {rows : List (List ℕ)} (v : Nesting par dis cnt rows) (a c : ℕ)
     → 2 ≤ a → a < 64 → 0 < cnt a → 2 ≤ c → c < 64 → 0 < occurrences c (dis a) → 0 < cnt c
-shown-open {par} {dis} {cnt} {rows} v a c h k o hc kc p =
+display-open {par} {dis} {cnt} {rows} v a c h k o hc kc p =
     let u : (t : ℕ) × (t < length rows) × (0 < occurrences a (getD rows t [])) = on-one a rows (omega (arith, v .counts a h k)) in
     let r : List ℕ = getD rows (u .0) [] in
     let z : (l : List ℕ) × Nested par dis (a ∷ l) × ((x : ℕ) → occurrences x (a ∷ l) ≤ occurrences x (scopesOf r))

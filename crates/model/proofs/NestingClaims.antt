@@ -19,7 +19,7 @@ use Rattle.model.specs.Checks.{isStarted}
 use Rattle.model.specs.History.{History, rowOf, occurrences}
 use Rattle.model.specs.Claims.{Open, Walk, Meets, InOrder, scan}
 use Rattle.model.specs.Invariant.{scopesOf, Nested, Nesting, countIn, Good}
-use Rattle.model.proofs.Walks.{walk-is, meets-occ, occ-meets, row-at, scan-is, down-has, occ-down}
+use Rattle.model.proofs.Walks.{walk-is, meets-occ, occ-meets, row-at, scan-is, down-at, occ-down}
 use Rattle.model.proofs.Sound.{Same}
 use Rattle.model.proofs.Parts.{stack-is, nesting-same}
 use Rattle.model.proofs.Bounds.{StandsOn, stands-on, by-area}
@@ -95,20 +95,20 @@ module _ (s : State) (b : History) (g : Good s) (e : Same s b) where
 
   -- ---- the display
 
-  shown-occ : (a c : ℕ) → 2 ≤ a → displayHolds s a c ≡ true → 0 < occurrences a (displayAt s c)
+  display-occ : (a c : ℕ) → 2 ≤ a → displayHolds s a c ≡ true → 0 < occurrences a (displayAt s c)
   unfolding displayHolds rowHolds displayAt
-  shown-occ a c h o =
+  display-occ a c h o =
       let f = and-true (leb (areaAt s a .depth) (areaAt s c .depth)) _ o in
       let k = and-true (ltb 0 (areaAt s a .depth)) _ (f .1) in
       occ-down (b .parents) (displayAt s) a h (rowAt s c) (areaAt s c .depth) (areaAt s a .depth - 1)
       (omega (arith, ltb-true 0 (areaAt s a .depth) (k .0), leb-true (areaAt s a .depth) (areaAt s c .depth) (f .0)))
       (eqb-true (getD (rowAt s c) (areaAt s a .depth - 1) 0) a (k .1))
 
-  occ-shown : (a c : ℕ) → 2 ≤ a → Nested (b .parents) (displayAt s) (displayAt s c) → 0 < occurrences a (displayAt s c) → displayHolds s a c ≡ true
+  occ-display : (a c : ℕ) → 2 ≤ a → Nested (b .parents) (displayAt s) (displayAt s c) → 0 < occurrences a (displayAt s c) → displayHolds s a c ≡ true
   unfolding displayHolds rowHolds displayAt
-  occ-shown a c h n q =
+  occ-display a c h n q =
       let z : (j : List ℕ) × Nested (b .parents) (displayAt s) (a ∷ j) × (getD (rowAt s c) (length j) 0 ≡ a) × (length j < areaAt s c .depth)
-      = down-has (b .parents) (displayAt s) a h (rowAt s c) (areaAt s c .depth) n q in
+      = down-at (b .parents) (displayAt s) a h (rowAt s c) (areaAt s c .depth) n q in
       let d : areaAt s a .depth ≡ suc (length (z .0)) = sym (length-down (rowAt s a) (areaAt s a .depth)) ∙ ap length (z .1 .0 .display-is) in
       let p : areaAt s a .depth - 1 ≡ length (z .0) = omega arith in
       rw (p, le-leb (areaAt s a .depth) (areaAt s c .depth) (omega (arith, z .3)), lt-ltb 0 (areaAt s a .depth) (omega arith)) (eq-eqb (getD (rowAt s c) (length (z .0)) 0) a (z .2))
@@ -116,14 +116,14 @@ module _ (s : State) (b : History) (g : Good s) (e : Same s b) where
   pub looks : (a c : ℕ) → 2 ≤ a → Open b c → (displayHolds s a c ≡ true) ↔ (0 < occurrences a (displayAt s c))
   looks a c h o =
       let n : (k : List ℕ) × Nested (b .parents) (displayAt s) (c ∷ k) = open-at c o in
-      (shown-occ a c h, occ-shown a c h (subst (Nested (b .parents) (displayAt s)) (sym (n .1 .0 .display-is)) (n .1)))
+      (display-occ a c h, occ-display a c h (subst (Nested (b .parents) (displayAt s)) (sym (n .1 .0 .display-is)) (n .1)))
 
   -- one look into the display says whether the scope stands on it
   verdict : (a c : ℕ) → 2 ≤ a → (k : List ℕ) → Nested (b .parents) (displayAt s) (c ∷ k) → displayHolds s a c ≡ ltb 0 (occurrences a (c ∷ k))
   verdict a c h k n = cases (ltb 0 (occurrences a (c ∷ k)))
-      (λ o. rw o (occ-shown a c h (subst (Nested (b .parents) (displayAt s)) (sym is) n) (rw is (ltb-true 0 (occurrences a (c ∷ k)) o))))
+      (λ o. rw o (occ-display a c h (subst (Nested (b .parents) (displayAt s)) (sym is) n) (rw is (ltb-true 0 (occurrences a (c ∷ k)) o))))
       (λ o. rw o (cases (displayHolds s a c)
-      (λ d. absurd (omega (arith, ltb-false 0 (occurrences a (c ∷ k)) o, shown-occ a c h d, ap (occurrences a) is)))
+      (λ d. absurd (omega (arith, ltb-false 0 (occurrences a (c ∷ k)) o, display-occ a c h d, ap (occurrences a) is)))
       (λ d. d)))
     where
       is : displayAt s c ≡ c ∷ k

@@ -15,7 +15,7 @@ use Rattle.model.specs.Objects.{allocateStatus}
 use Rattle.model.specs.References.{slotStatus, storeStatus, loadStatus}
 use Rattle.model.specs.Data.{dataStatus, viewStatus}
 use Rattle.model.specs.Calls.{Call, start, end, make, enter, exit, allocate, store, load, write, read, view, viewed, callStatus, callValue, callState, callMemory, outcomeOf}
-use Rattle.model.specs.Run.{other, Line}
+use Rattle.model.specs.Run.{Line}
 use Rattle.model.specs.History.{History, historyStep, historyLine}
 use Rattle.model.proofs.Sound.{Sound}
 use Rattle.model.proofs.Keeps.{good-call}

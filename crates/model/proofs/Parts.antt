@@ -1,7 +1,7 @@
 -- What is read of a state after a part of it is replaced, and the invariant without its nesting.
 -- Assumes nothing.
 use Prim.Native.Nat.{ℕ, _≤_, _<_}
-use mathlib.Core.List.{List, [], map}
+use mathlib.Core.List.{List, []}
 use mathlib.Core.Path.{_≡_, refl, sym, ap, ap₂, _∙_}
 use mathlib.Core.Logic.{_≢_}
 use lib.ListN.{length, getD, length-set, List·getD-map}

@@ -134,7 +134,7 @@ tiled-data wd wd′ bit ok mk p h d (o ∷ os) n y f q z =
       refs = λ j k. rw (f (suc (place o + j)) (omega (arith, z .0 .ends)) (b j k)) (z .0 .refs j k);
     }
 
--- a new object on first
+-- a new object on top
 pub tiled-push : (wd wd′ : ℕ → ℕ) (bit bit′ : ℕ → Bool) (ok ok′ : ℕ → Type 0) (mk : ℕ → ℕ) (os : List Object) (n : ℕ) (o : Object)
     → ((j : ℕ) → j < n → wd′ j ≡ wd j) → ((j : ℕ) → j < n → bit′ j ≡ bit j) → ((w : ℕ) → ok w → ok′ w) → place o ≡ n
     → Tile wd′ bit′ ok′ mk o (suc (n + o .slots + o .words))

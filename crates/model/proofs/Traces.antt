@@ -1,6 +1,6 @@
 -- What a trace tells beside the book: where an object comes from, that what is gone stays gone, that an area with objects is open.
 -- Assumes nothing.
-use Prim.Native.Nat.{ℕ, _+_, _≤_, _<_}
+use Prim.Native.Nat.{ℕ, _≤_, _<_}
 use mathlib.Core.Bool.{false}
 use mathlib.Core.List.{List, [], _∷_, _++_}
 use mathlib.Core.Path.{_≡_, refl, sym, ap}
@@ -14,7 +14,7 @@ use Rattle.model.specs.State.{State, Memory, current, isOpen}
 use Rattle.model.specs.Calls.{Call, start, end, make, enter, exit, allocate, store, load, write, read, view, viewed}
 use Rattle.model.specs.Run.{Element, Line, World, step, run}
 use Rattle.model.specs.History.{Object, History, rowOf, putAt, below, occurrences, handles, isScopeOnNone, historyStart, historyEnter, historyExit, historyAllocate, historyStep, historyLine, historyOf}
-use Rattle.model.specs.Claims.{Open, In, Among, Allocates, made, stays, On}
+use Rattle.model.specs.Claims.{Open, In, Among, Allocates, On}
 use Rattle.model.specs.Invariant.{countIn}
 use Rattle.model.proofs.Lists.{occ-same, occ-other}
 use Rattle.model.proofs.Memory.{put-same, put-other}
@@ -22,7 +22,6 @@ use Rattle.model.proofs.Tiles.{in-some}
 use Rattle.model.proofs.Sound.{Sound}
 use Rattle.model.proofs.NestingClaims.{opens}
 use Rattle.model.proofs.MemoryClaims.{no-objects-above}
-use Rattle.model.proofs.Outcomes.{accepted}
 
 -- ---- what the trace tells beside the book
 

@@ -23,14 +23,14 @@ unfolding scopesOf
 scopes-order [] = none
 scopes-order (x ∷ r) = cases (leb 2 x) (λ e. rw e (keep (scopes-order r))) (λ e. rw e (skip (scopes-order r)))
 
-has-occ : (a : ℕ) (l : List ℕ) → onRow a l ≡ ltb 0 (occurrences a l)
+on-row-occ : (a : ℕ) (l : List ℕ) → onRow a l ≡ ltb 0 (occurrences a l)
 unfolding onRow
-has-occ a [] = unfold occurrences in refl
-has-occ a (x ∷ l) =
+on-row-occ a [] = unfold occurrences in refl
+on-row-occ a (x ∷ l) =
     cases
     (eqb x a)
     (λ e. rw (e, eqb-true x a e, occ-same a l) (sym (lt-ltb 0 (suc (occurrences a l)) (omega arith))))
-    (λ e. rw (e, occ-other a x l (eqb-false x a e)) (has-occ a l))
+    (λ e. rw (e, occ-other a x l (eqb-false x a e)) (on-row-occ a l))
 
 module _ (par : ℕ → ℕ) (dis : ℕ → List ℕ) where
   -- the walk from the innermost scope is the nesting
@@ -73,7 +73,7 @@ module _ (par : ℕ → ℕ) (dis : ℕ → List ℕ) where
         below x r n = cases (leb 2 x) (λ e. (rw (scopes-high x r (leb-true 2 x e)) at n) .1) (λ e. rw (scopes-low x r (leb-false 2 x e)) at n)
 
     found : (x c : ℕ) (r : List ℕ) → 2 ≤ c → x ≡ c → onRow a (x ∷ r) ≡ ltb 0 (occurrences a (c ∷ scopesOf r))
-    found x c r hc e = rw (e, ← scopes-high c r hc, occ-scopes a h (c ∷ r)) (has-occ a (c ∷ r))
+    found x c r hc e = rw (e, ← scopes-high c r hc, occ-scopes a h (c ∷ r)) (on-row-occ a (c ∷ r))
 
     -- the scan from c on: what it finds below c is on the nesting from c on
     pub scan-is : (c : ℕ) → 2 ≤ c → (r : List ℕ) → Nested par dis (scopesOf r) → 0 < occurrences c r
@@ -89,17 +89,17 @@ module _ (par : ℕ → ℕ) (dis : ℕ → List ℕ) where
         below : (x : ℕ) (r : List ℕ) → Nested par dis (scopesOf (x ∷ r)) → Nested par dis (scopesOf r)
         below x r n = cases (leb 2 x) (λ e. (rw (scopes-high x r (leb-true 2 x e)) at n) .1) (λ e. rw (scopes-low x r (leb-false 2 x e)) at n)
 
-    -- where the display of the nesting onRow a
-    pub down-has : (l : List ℕ) (m : ℕ) → Nested par dis (down l m) → 0 < occurrences a (down l m)
+    -- where the display of the nesting has a
+    pub down-at : (l : List ℕ) (m : ℕ) → Nested par dis (down l m) → 0 < occurrences a (down l m)
         → (j : List ℕ) × Nested par dis (a ∷ j) × (getD l (length j) 0 ≡ a) × (length j < m)
     unfolding down occurrences
-    down-has l zero n p = absurd (omega arith)
-    down-has l (suc m) n p =
+    down-at l zero n p = absurd (omega arith)
+    down-at l (suc m) n p =
         cases
         (eqb (getD l m 0) a)
         (λ e. (down l m, rw (eqb-true (getD l m 0) a e) at n, rw (length-down l m) (eqb-true (getD l m 0) a e), omega (arith, length-down l m)))
         (λ e. let z : (j : List ℕ) × Nested par dis (a ∷ j) × (getD l (length j) 0 ≡ a) × (length j < m)
-        = down-has l m (n .1) (rw (occ-other a (getD l m 0) (down l m) (eqb-false (getD l m 0) a e)) at p)
+        = down-at l m (n .1) (rw (occ-other a (getD l m 0) (down l m) (eqb-false (getD l m 0) a e)) at p)
         in (z .0, z .1, z .2, omega (arith, z .3)))
 
     pub occ-down : (l : List ℕ) (m k : ℕ) → k < m → getD l k 0 ≡ a → 0 < occurrences a (down l m)

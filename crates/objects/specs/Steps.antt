@@ -59,9 +59,6 @@ pub record Read (w b : List ℕ) (m : Memory) (h a o : ℕ) (x : Area) : Type 0 
   pub record-is : x ≡ areaAt (stateOf w b) a
 
 module _ (w b : List ℕ) (m : Memory) (h a o : ℕ) (x : Area) (d : Read w b m h a o x) where
-  pub area-low : a < 64
-  area-low = rw (d .area-is) (area-lt h)
-
   pub offset-low : o < 16384
   offset-low = rw (d .offset-is) (offset-lt h)
 

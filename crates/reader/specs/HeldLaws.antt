@@ -1,7 +1,6 @@
 -- Laws of what is held: a line answered in each case, a byte fed in each case, and the end of input.
 -- Assumes nothing.
 use mathlib.Core.Path.{_≡_, refl, sym, ap, _∙_, subst}
-use mathlib.Core.Bool.{true, false}
 use mathlib.Core.List.{List, [], _∷_, _++_, append-nil}
 use Prim.Native.Nat.{ℕ, _+_, _<_}
 use native.Mathlib.Omega.{arith}
@@ -10,13 +9,12 @@ use borrow.Author.Tests.{eq-eqb, ne-eqb}
 use native.Mathlib.Numerals.{add-one}
 use lib.ListN.{length, take, getD, replicate, length-replicate}
 use lib.Seq.{take-suc}
-use Rattle.layout.specs.Choice.{cases, pick-true}
+use Rattle.layout.specs.Choice.{pick-true}
 use Rattle.layout.specs.declared.stack.Answer.{Answer}
 use Rattle.model.specs.declared.Lengths.{Lengths}
 use Rattle.model.specs.SetUp.{lengthsOf, setUpStatus, setUpState, firstState}
-use Rattle.model.specs.Run.{World, kept, step, begin}
+use Rattle.model.specs.Run.{World, begin}
 use Rattle.setup.specs.First.{Begun, prepared}
-use Rattle.model.specs.Calls.{outcomeOf}
 use Rattle.tables.specs.Contract.{memoryOf, Ready}
 use Rattle.tables.specs.Cut.{put}
 use Rattle.lines.specs.declared.frame.Fields.{Fields}

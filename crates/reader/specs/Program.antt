@@ -29,8 +29,8 @@ take-put : (l o : List ℕ) → length o ≤ length l → take (length o) (put l
 unfolding put
 take-put l o h = ap (take (length o)) (sets-eq o l 0 (omega arith)) ∙ take-append-seam o (drop (0 + length o) l)
 
-shown : (e x : Held) (f : Feeding) → e .at ≡ 0 → x .at ≤ length (e .output) → Leaves e x f → take (x .at) (x .output) ≡ f .output
-shown e x f z h v =
+written-part : (e x : Held) (f : Feeding) → e .at ≡ 0 → x .at ≤ length (e .output) → Leaves e x f → take (x .at) (x .output) ≡ f .output
+written-part e x f z h v =
     let n : x .at ≡ length (f .output) = omega (arith, v .at-is) in
     rw (n, v .output-is, z) (take-put (e .output) (f .output) (omega arith))
 
@@ -49,7 +49,7 @@ fed-after w l (more {k = k} {k₁ = k₁} {line = line} {line₁ = line₁} {len
     record {
       written-is =
           ap₂ (λ (x y : List ℕ). x ++ y)
-          (shown (held k line len out 0) (held k₁ line₁ len₁ out₁ n) (fed w l chunk) refl (omega (arith, f .room)) v)
+          (written-part (held k line len out 0) (held k₁ line₁ len₁ out₁ n) (fed w l chunk) refl (omega (arith, f .room)) v)
           (a .written-is);
       stands = a .stands;
       holds = a .holds;
@@ -68,5 +68,5 @@ program {k} {k₁} {k₂} {line} {line₁} {len} {chunks} {written} {out} {out�
     let all : Feeding = fedAll firstWorld [] chunks in
     let v = f .leaves (all .world) (all .line) (a .stands) (a .holds) in
     ap₂ (λ (x y : List ℕ). x ++ y) (a .written-is)
-    (shown (held k₁ line₁ len out 0) (held k₂ line₁ 0 out₁ n) (finished (all .world) (all .line)) refl (omega (arith, f .room)) v)
+    (written-part (held k₁ line₁ len out 0) (held k₂ line₁ 0 out₁ n) (finished (all .world) (all .line)) refl (omega (arith, f .room)) v)
     ∙ fed-output chunks

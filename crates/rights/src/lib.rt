@@ -1,6 +1,5 @@
 // The constant table of rights: 36 entries, read by kind, class of area and right.
 ghost use mathlib.Core.Path.{_≡_};
-ghost use Prim.Native.Nat.{_<_};
 ghost use Rattle.rights.specs.declared.Class.the-variants.{Heap, Immortal, Scope};
 ghost use Rattle.rights.specs.Rights.{classOf, allows, ofKind};
 

@@ -35,7 +35,7 @@ pub fn put_row(bytes: &mut Bytes, a: usize, row: Row)
     }
 }
 
-// One entry of the display of an area: that of a depth, from 0 on.
+// The entry of an area's display that stands behind its first `depth` ones.
 pub fn put_ancestor(bytes: &mut Bytes, a: usize, depth: Depth, area: u8)
     requires { ⌜ (a < 64) × (depth .0 < 32) ⌝ }
     ensures { λ r. ⌜ now (bytes .exit) ≡ set (now (bytes .entry)) (1024 + a * 32 + depth .0) area ⌝ }

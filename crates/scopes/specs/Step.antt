@@ -1,18 +1,17 @@
 -- A call of any op, by its number's name; and what its answer and the tables and buffers that it leaves are: a step of the model's run.
 -- Assumes nothing.
-use mathlib.Core.Path.{_≡_, refl, sym, ap, _∙_}
+use mathlib.Core.Path.{_≡_, refl, _∙_}
 use mathlib.Core.List.{List, [], _∷_}
-use mathlib.Core.Bool.{true, false}
 use Prim.Native.Nat.{ℕ}
 use lib.Dec.{eqb}
-use Rattle.layout.specs.Choice.{pick, cases}
+use Rattle.layout.specs.Choice.{cases}
 use Rattle.model.specs.State.{State, Memory}
 use Rattle.model.specs.Checks.{fits}
-use Rattle.model.specs.Calls.{Call, start, end, make, enter, exit, allocate, store, load, write, read, callStatus, callValue, callState, callMemory, callWords, Reply, Outcome, outcomeOf}
-use Rattle.model.specs.Run.{kept, Line, World, step}
+use Rattle.model.specs.Calls.{Call, start, end, make, enter, exit, allocate, store, load, write, read, callStatus, callMemory, callWords, Outcome, outcomeOf}
+use Rattle.model.specs.Run.{kept, Line, step}
 use Rattle.model.specs.History.{blank}
 use Rattle.model.proofs.Outcomes.{unfit}
-use Rattle.tables.specs.Decode.{stateOf, Holds}
+use Rattle.tables.specs.Decode.{stateOf}
 use Rattle.tables.specs.Contract.{memoryOf, Ready, Done, Told, Written}
 use Rattle.scopes.specs.declared.Op.{Op}
 use Rattle.scopes.specs.declared.Op.the-variants.{Start, End, Make, Enter, Exit, Allocate, Store, Load, Write, Read}
@@ -73,12 +72,6 @@ reply-is s m c n = cases (eqb (callStatus s m c) 0) (λ e. rw (e, n)) (λ e. rw 
 -- ---- what the ops' contracts give
 
 module _ (w b p s m w′ b′ p′ s′ m′ : List ℕ) (o : Op) (t pp q r status value : ℕ) where
-  abbrev c : Call
-  c = callOf o t pp q r
-
-  abbrev out : Outcome
-  out = outcomeOf (stateOf w b) (memoryOf p s m) (callOf o t pp q r)
-
   pub carried : Done status value w′ b′ (outcomeOf (stateOf w b) (memoryOf p s m) (callOf o t pp q r)) → Written p′ s′ m′ (outcomeOf (stateOf w b) (memoryOf p s m) (callOf o t pp q r))
       → Carried w b p s m w′ b′ p′ s′ m′ (callOf o t pp q r) status value
   carried d x = record {

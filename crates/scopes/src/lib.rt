@@ -2,7 +2,6 @@
 use layout::stack::Answer;
 use tables::Bytes;
 use tables::Words;
-ghost use Prim.Native.Nat.{ℕ};
 ghost use Rattle.tables.specs.Contract.{Ready};
 ghost use Rattle.scopes.specs.Step.{callOf, Carried};
 

@@ -1,22 +1,21 @@
 -- The words that set-up makes hold the first state; and one law for each way that its checks end.
 -- Assumes nothing.
-use mathlib.Core.Path.{_≡_, refl, ap, sym, _∙_, subst}
-use mathlib.Core.Bool.{true, false, not}
-use mathlib.Core.List.{List, [], _∷_}
-use Prim.Native.Nat.{ℕ, zero, suc, _+_, _-_, _/_, _<_, _≤_}
+use mathlib.Core.Path.{_≡_, ap, sym, _∙_}
+use mathlib.Core.Bool.{not}
+use mathlib.Core.List.{List}
+use Prim.Native.Nat.{ℕ, _+_, _/_, _<_, _≤_}
 use native.Mathlib.Omega.{arith}
-use lib.Dec.{eqb, ltb}
+use lib.Dec.{eqb}
 use borrow.Author.Tests.{eq-eqb, ne-eqb, lt-ltb, le-ltb}
-use lib.ListN.{length, set, replicate}
-use Rattle.layout.specs.Choice.{pick, hit, skip, pick-true, pick-false}
-use Rattle.model.specs.declared.Area.{Area}
+use lib.ListN.{replicate}
+use Rattle.layout.specs.Choice.{hit, skip, pick-true, pick-false}
 use Rattle.model.specs.declared.Lengths.{Lengths}
 use Rattle.model.specs.State.{State, withArea}
 use Rattle.model.specs.SetUp.{setUpStatus, firstState, setUpState, standing}
-use Rattle.tables.specs.Decode.{putArea, putLengths, stateOf, Sized, Holds}
+use Rattle.tables.specs.Decode.{putArea, putLengths, Holds}
 use Rattle.tables.specs.Laws.{state-area}
 use Rattle.tables.specs.Contract.{Ready}
-use Rattle.tables.specs.Blank.{blankState, blank-holds, withLengths, state-lengths}
+use Rattle.tables.specs.Blank.{blank-holds, withLengths, state-lengths}
 
 -- heap and immortal are written, then the lengths
 abbrev pub firstWords : ℕ → ℕ → Lengths → List ℕ

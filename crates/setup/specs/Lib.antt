@@ -1,1 +1,2 @@
+-- What set-up gives.
 pub mod First

@@ -1,18 +1,17 @@
 -- Tables of zeros hold a blank state; and the three lengths are written.
 -- Assumes nothing.
-use mathlib.Core.Path.{_≡_, refl, ap, sym, _∙_}
-use mathlib.Core.List.{List, [], _∷_}
+use mathlib.Core.Path.{_≡_, refl, sym, _∙_}
+use mathlib.Core.List.{List}
 use mathlib.Core.Logic.{_⊎_, inl, inr, _≢_, ⊎-elim}
-use Prim.Native.Nat.{ℕ, zero, suc, _+_, _*_, _<_, _≤_}
+use Prim.Native.Nat.{ℕ, zero, suc, _+_, _*_, _<_}
 use native.Mathlib.Omega.{arith}
 use lib.ListN.{length, getD, set, replicate, length-replicate, getD-replicate, length-set}
 use lib.Seq.{ext-getD, getD-set-same, getD-set-other}
-use Rattle.model.specs.declared.Area.{Area}
 use Rattle.model.specs.declared.Lengths.{Lengths}
-use Rattle.model.specs.State.{Thread, State, noArea, noThread}
+use Rattle.model.specs.State.{State, noArea, noThread}
 use Rattle.model.specs.SetUp.{newThread}
 use Rattle.tables.specs.Cut.{cut, each, each-length, each-at, each-same}
-use Rattle.tables.specs.Decode.{areaOf, threadOf, lengthsOf, putLengths, rowOf, stateOf, Sized, Holds}
+use Rattle.tables.specs.Decode.{areaOf, threadOf, putLengths, rowOf, stateOf, Sized, Holds}
 
 -- ---- zeros
 

@@ -1,10 +1,10 @@
 -- What the contracts of the calls have in common: what a call may rely on, and what it leaves.
 -- Assumes nothing.
 use mathlib.Core.List.{List}
-use mathlib.Core.Path.{_≡_, refl, sym, _∙_, subst}
+use mathlib.Core.Path.{_≡_}
 use Prim.Native.Nat.{ℕ}
 use Rattle.model.specs.State.{State, Memory}
-use Rattle.model.specs.Calls.{Call, Outcome, outcomeOf}
+use Rattle.model.specs.Calls.{Outcome}
 use Rattle.model.specs.Invariant.{Good}
 use Rattle.tables.specs.Decode.{stateOf, Sized, Holds}
 

@@ -1,6 +1,6 @@
 -- The state that the two tables hold: where each record lies, and what is written where.
 -- Assumes nothing.
-use mathlib.Core.List.{List, [], _∷_}
+use mathlib.Core.List.{List}
 use Prim.Native.Nat.{ℕ, _+_, _*_}
 use mathlib.Core.Path.{_≡_}
 use lib.ListN.{length, getD, set}

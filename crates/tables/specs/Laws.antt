@@ -12,9 +12,8 @@ use borrow.Author.Tests.{ltb-true, ltb-false}
 use lib.ListN.{length, getD, set, length-set}
 use lib.Seq.{getD-set-same, getD-set-other}
 use Rattle.model.specs.declared.Area.{Area}
-use Rattle.model.specs.declared.Lengths.{Lengths}
-use Rattle.model.specs.State.{Thread, State, noArea, noThread, areaAt, rowAt, threadAt, withArea, withRow, withThread, withTaken}
-use Rattle.tables.specs.Cut.{cut, put, each, getD-cut, length-cut, length-put, cut-put, cut-put-other, getD-put-other, cut-set, cut-set-other, cut-ext, each-at, each-set, each-same, Apart}
+use Rattle.model.specs.State.{Thread, noArea, noThread, areaAt, rowAt, threadAt, withArea, withRow, withThread, withTaken}
+use Rattle.tables.specs.Cut.{cut, put, each, getD-cut, length-cut, length-put, cut-put, cut-put-other, getD-put-other, cut-set, cut-set-other, cut-ext, each-at, each-set, each-same}
 use Rattle.tables.specs.Decode.{areaOf, putArea, threadOf, putKind, putLen, putEntry, putInner, lengthsOf, putTaken, rowOf, putRow, stateOf, Sized, Holds}
 
 -- ---- the records of a table's state
@@ -169,7 +168,6 @@ module _ (w b : List ℕ) where
       }))
   unfolding threadOf
   state-push t k n v i lt lk z =
-      let b1 : List ℕ = putEntry b t k v in
       let l1 : length (putEntry b t k v) ≡ 3072 = length-set b (t * 32 + k) v ∙ z .bytes in
       let zb : length b ≡ 3072 = z .bytes in
       let zw : length w ≡ 548 = z .words in

@@ -79,10 +79,6 @@ module _ (s : State) (m : Memory) (c : Call) where
       let o = sym e ∙ z in
       record { status-is = z ∙ sym (accepted-status o); value-is = f ∙ sym (accepted-value o); state-is = g ∙ sym (accepted-state o) }
 
-  -- the same, where the call answers the number 0
-  pub told-zero : {n v : ℕ} → n ≡ callStatus s m c → n ≡ 0 → v ≡ callValue s m c → s ≡ callState s c → Told 0 v s (outcomeOf s m c)
-  told-zero e z f g = told-accepted (sym z ∙ e) refl f g
-
   -- the lent words after a refused call
   pub written-refused : {n : ℕ} → n ≡ callStatus s m c → n ≢ 0 → Written (m .permanent) (m .scratch) (m .map) (outcomeOf s m c)
   written-refused e h =

@@ -26,7 +26,7 @@ pub fn lengths_fit(
     map.len() as u64 == own.map
 }
 
-// Refusals 1 and 2, with which every call begins.
+// Both, for every call but op 01, whose thread is not started yet.
 pub fn check_caller(
     words: &Words,
     bytes: &Bytes,

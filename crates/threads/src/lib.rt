@@ -5,7 +5,6 @@ mod stack; // stack.rt: a thread's current area and innermost scope
 mod thread; // thread.rt: ops 01 and 02
 
 pub use caller::check_caller;
-pub use caller::lengths_fit;
 pub use stack::current_area;
 pub use stack::innermost_scope;
 pub use thread::end;

@@ -56,7 +56,7 @@ fn store_of(area: u64) -> u64
     0
 }
 
-// Where the shown part lies, for who cannot be given a part of a slice.
+// Where the shown part lies, for C and Rust, which cannot be given a part of a slice.
 pub fn view_place(
     words: &Words,
     bytes: &Bytes,

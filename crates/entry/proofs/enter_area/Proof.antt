@@ -48,8 +48,8 @@ opened-area-requires c κs =
 put-area-requires-2 : tie.Need-put-area-requires-2
 put-area-requires-2 c κs = search needs
 
-show-requires : tie.Need-show-requires
-show-requires c κs =
+put-display-requires : tie.Need-put-display-requires
+put-display-requires c κs =
     let o = c .before .before .before .before .before .before .before .before .before .before .before in
     let a = o .args in
     (search needs, search needs, depth-room (now (a .words)) (now (a .bytes)) (a .q) (a .p) (o .pre .1) (c .before .before .before .before .area-at2 .ensures))
@@ -60,7 +60,7 @@ returns-3 c =
     let a = o .args in
     let h = o .pre .1 in (
       value-fresh (now (a .words)) (now (a .bytes)) (o .pre .0) (a .q) (a .p) (h .area) (h .parent) (c .before .before .before .before .before .before .before .before .before .before .area-at .ensures) (search needs) (search needs) (c .before .before .before .before .before .area-at2 .ensures) (c .before .before .before .before .opened-area .ensures),
-      entered-fresh (now (a .words)) (now (a .bytes)) (o .pre .0) (a .q) (a .p) (h .area) (h .parent) (c .before .before .before .before .before .before .before .before .before .before .area-at .ensures) (search needs) (search needs) (c .before .before .before .before .before .area-at2 .ensures) (c .before .before .before .before .opened-area .ensures) (c .show .ensures) (c .before .before .put-area2 .ensures),
+      entered-fresh (now (a .words)) (now (a .bytes)) (o .pre .0) (a .q) (a .p) (h .area) (h .parent) (c .before .before .before .before .before .before .before .before .before .before .area-at .ensures) (search needs) (search needs) (c .before .before .before .before .before .area-at2 .ensures) (c .before .before .before .before .opened-area .ensures) (c .put-display .ensures) (c .before .before .put-area2 .ensures),
     )
 
 pub enter-area-spec : {M : Type 1} → statement M
@@ -75,5 +75,5 @@ enter-area-spec =
     area-at-requires-2
     opened-area-requires
     put-area-requires-2
-    show-requires
+    put-display-requires
     returns-3)

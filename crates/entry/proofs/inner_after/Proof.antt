@@ -1,4 +1,4 @@
--- `areas::enter::inner_after` meets its contract. Assumes nothing.
+-- `inner_after` meets its contract. Assumes nothing.
 use borrow.Author.Tests.{le-leb, lt-leb}
 use Rattle.entry.proofs.inner_after.Statement.{statement}
 use Rattle.entry.proofs.inner_after.Tie as tie

@@ -1,4 +1,4 @@
--- `areas::enter::opened_area` meets its contract. Assumes nothing.
+-- `opened_area` meets its contract. Assumes nothing.
 use native.Mathlib.Numerals.{add-one}
 use borrow.Author.Needs.{needs}
 use Rattle.entry.proofs.opened_area.Statement.{statement}

@@ -1,4 +1,4 @@
--- `areas::enter::push` meets its contract. Assumes nothing.
+-- `push` meets its contract. Assumes nothing.
 use denote.Ref.{now}
 use native.Mathlib.Omega.{arith}
 use borrow.Author.Needs.{needs}

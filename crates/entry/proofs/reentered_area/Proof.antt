@@ -1,4 +1,4 @@
--- `areas::enter::reentered_area` meets its contract. Assumes nothing.
+-- `reentered_area` meets its contract. Assumes nothing.
 use mathlib.Core.Path.{refl}
 use native.Mathlib.Numerals.{add-one}
 use borrow.Author.Needs.{needs}

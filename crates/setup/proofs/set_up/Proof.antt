@@ -1,5 +1,5 @@
 -- `set_up` meets its contract: what its words hold satisfies the invariant, accepted or not.
-use mathlib.Core.Path.{_≡_, sym, subst}
+use mathlib.Core.Path.{sym, subst}
 use Rattle.model.specs.Invariant.{Good}
 use Rattle.model.proofs.Keeps.{good-set-up}
 use borrow.Author.Needs.{needs}

@@ -1,5 +1,5 @@
 -- `set_up_words` meets its contract: the words hold the first state of an accepted set-up, or of one with all lengths 0.
-use mathlib.Core.Path.{_≡_, sym, _∙_}
+use mathlib.Core.Path.{sym, _∙_}
 use Rattle.setup.specs.First.{accepted-holds, refused-holds}
 use borrow.Author.Needs.{needs}
 use Rattle.setup.proofs.set_up_words.Statement.{statement}

@@ -1,4 +1,4 @@
--- `show` meets its contract: the row of the parent, and behind it the entry in which the next row differs.
+-- `put_display` meets its contract: the row of the parent, and behind it the entry in which the next row differs.
 use mathlib.Core.Path.{ap, _∙_}
 use mathlib.Core.List.{List}
 use Prim.Native.Nat.{ℕ}
@@ -9,8 +9,8 @@ use Rattle.tables.specs.Decode.{putRow}
 use Rattle.tables.specs.Laws.{length-row}
 use Rattle.display.specs.Display.{extendedRow}
 use Rattle.entry.specs.Entered.{row-extended}
-use Rattle.entry.proofs.show.Statement.{statement}
-use Rattle.entry.proofs.show.Tie as tie
+use Rattle.entry.proofs.put_display.Statement.{statement}
+use Rattle.entry.proofs.put_display.Tie as tie
 
 row-at-requires : tie.Need-row-at-requires
 row-at-requires c κs = search needs
@@ -40,8 +40,8 @@ returns c =
     (row-extended (now (a .bytes)) (a .q) (a .depth .0) (a .q) (row .result) (next .result) (ap length (row .ensures) ∙ length-row (now (a .bytes)) (a .p)) (c .before .before .before .before .before .before .before .pre .2) (next .ensures))
     ∙ ap (λ (r : List ℕ). putRow (now (a .bytes)) (a .q) (extendedRow r (a .depth .0) (a .q))) (row .ensures)
 
-pub show-spec : {M : Type 1} → statement M
-show-spec =
+pub put-display-spec : {M : Type 1} → statement M
+put-display-spec =
     tie.close
     (tie.spec
     row-at-requires
