@@ -10,11 +10,14 @@ handleOf offset area generation = offset + area * 16384 + generation * 1048576
 abbrev pub null : ℕ
 null = 0
 
+-- "word offset in its area in bits 0 to 13"
 unfoldable pub offsetOf : ℕ → ℕ
 offsetOf handle = handle % 16384
 
+-- "area in bits 14 to 19"
 unfoldable pub areaOf : ℕ → ℕ
 areaOf handle = handle / 16384 % 64
 
+-- "turn in bits 20 to 63"
 unfoldable pub generationOf : ℕ → ℕ
 generationOf handle = handle / 1048576

@@ -45,5 +45,6 @@ pushedStack s area =
 unfoldable pub popAnswer : ScopeStack → Answer
 popAnswer s = pick (eqb (heightOf s) 0) (refused 11) (accepted (getD (s .entries) (heightOf s - 1) 0))
 
+-- "a refusal keeps the entries"; else the top one is off
 unfoldable pub poppedStack : ScopeStack → ScopeStack
 poppedStack s = pick (eqb (heightOf s) 0) s (record { len = heightOf s - 1; entries = s .entries })

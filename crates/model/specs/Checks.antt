@@ -19,6 +19,7 @@ fits s m =
     eqb (length (m .permanent)) (s .lengths .permanent)
     && (eqb (length (m .scratch)) (s .lengths .scratch) && eqb (length (m .map)) (s .lengths .map))
 
+-- "thread started and not ended": it has a kind
 abbrev pub isStarted : State → ℕ → Bool
 isStarted s t = ltb 0 (threadAt s t .kind)
 

@@ -45,7 +45,7 @@ unfoldable pub scan : ℕ → ℕ → List ℕ → Bool
 scan a b [] = false
 scan a b (x ∷ l) = pick (eqb x b) (onRow a (x ∷ l)) (scan a b l)
 
--- o is one of a list of objects
+-- o is one of a list of objects. "An object is live until it is gone": the live ones are those that the book has in an area.
 pub data In (o : Object) : List Object → Type 0 where
   first : {l : List Object} → In o (o ∷ l)
   later : {x : Object} {l : List Object} → In o l → In o (x ∷ l)

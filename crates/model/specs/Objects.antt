@@ -46,6 +46,7 @@ objectWords l at slots words = set (filled l (suc at) (slots + words) 0) at (hea
 unfoldable pub objectBits : List ℕ → ℕ → ℕ → List ℕ
 objectBits map at n = withBit (cleared map (suc at) n) at
 
+-- "Allocation takes the area's next words, sets slots and data to 0, sets the map bit of the header and clears those of its other words."
 unfoldable pub allocateMemory : State → Memory → ℕ → ℕ → ℕ → Memory
 allocateMemory s m a slots words =
     withStore (record { permanent = m .permanent; scratch = m .scratch; map = objectBits (m .map) (bitIndex s a (areaAt s a .used)) (slots + words) })

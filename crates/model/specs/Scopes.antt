@@ -38,7 +38,7 @@ otherParent s t q = isScope q && (isOpen s q && not (eqb (areaAt s q .parent) (i
 abbrev pub lastGeneration : ℕ
 lastGeneration = 17592186044415
 
--- "17: scope not open, its turn 2^44 - 1"
+-- "17: scope not open, its turn 2^44 - 1". It asks for that turn or a higher one; under the invariant none is higher.
 unfoldable pub worn : State → ℕ → Bool
 worn s q = isScope q && (not (isOpen s q) && leb lastGeneration (areaAt s q .generation))
 
@@ -79,6 +79,7 @@ pushed h q = record {
   inner = set (h .inner) (h .len) (pick (isScope q) q (innermost (stackOf h)));
 }
 
+-- op 04, "enter (q area)": q is entered under "the innermost scope on the thread's stack" as it was, and its entry goes on top
 unfoldable pub enterState : State → ℕ → ℕ → State
 enterState s t q = withThread (enteredArea s q (innermost (stackAt s t))) t (pushed (threadAt s t) q)
 
@@ -104,6 +105,7 @@ left x = record {
   depth = pick (leb (x .count) 1) 0 (x .depth);
 }
 
+-- "If it was a scope its count falls by 1"; heap and immortal stay as they are
 unfoldable pub leftArea : State → ℕ → State
 leftArea s q = pick (isScope q) (withArea s q (left (areaAt s q))) s
 
@@ -111,6 +113,7 @@ leftArea s q = pick (isScope q) (withArea s q (left (areaAt s q))) s
 unfoldable pub popped : Thread → Thread
 popped h = record { kind = h .kind; len = pred (h .len); entries = h .entries; inner = h .inner }
 
+-- op 05, "exit": "Exit takes off the top entry", and the area of that entry is left
 unfoldable pub exitState : State → ℕ → State
 exitState s t = withThread (leftArea s (current (stackAt s t))) t (popped (threadAt s t))
 

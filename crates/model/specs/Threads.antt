@@ -19,6 +19,7 @@ startStatus s m t p = refuse (not (fits s m)) 1 (refuse (leb 16 t) 2 (refuse (is
 abbrev pub ofKind : Thread → ℕ → Thread
 ofKind h k = record { kind = k; len = h .len; entries = h .entries; inner = h .inner }
 
+-- op 01, "start thread (p kind)": it has that kind; its stack is empty, as that of every thread that is not started
 unfoldable pub startState : State → ℕ → ℕ → State
 startState s t p = withThread s t (ofKind (threadAt s t) p)
 
@@ -26,5 +27,6 @@ startState s t p = withThread s t (ofKind (threadAt s t) p)
 unfoldable pub endStatus : State → Memory → ℕ → ℕ
 endStatus s m t = admit s m t (refuse (ltb 0 (threadAt s t .len)) 11 0)
 
+-- op 02, "end thread": it has no kind any more; its stack is empty, by refusal 11
 unfoldable pub endState : State → ℕ → State
 endState s t = withThread s t (ofKind (threadAt s t) 0)

@@ -12,20 +12,20 @@ use Rattle.model.specs.References.{placeAfter}
 use Rattle.model.specs.Data.{dataIndex, viewStatus}
 use Rattle.views.specs.declared.Part.{Part}
 
--- of two things, one for each store, that of the store that is shown a part of: the store of the object's area, the permanent store where
--- the call is refused
+-- "shown as a part of the permanent or scratch store itself": of two things, one for each store, that of the store that is shown a part of:
+-- the store of the object's area, the permanent store where the call is refused
 unfoldable pub viewStore : {A : Type 0} → State → Memory → ℕ → ℕ → A → A → A
 viewStore s m t p permanent scratch = pick (eqb (viewStatus s m t p) 0) (pick (isScope (areaOf p)) scratch permanent) permanent
 
--- which of its words is the first that is shown
+-- which of its words is the first that is shown: the first data word, word 0 where the call is refused
 unfoldable pub viewFrom : State → Memory → ℕ → ℕ → ℕ
 viewFrom s m t p = pick (eqb (viewStatus s m t p) 0) (placeAfter s p (dataIndex s m p 0)) 0
 
--- how many are shown
+-- how many are shown: "exactly its d words. Refusals of this call (1, 2, 13, 5) show a part of length 0"
 unfoldable pub viewLength : State → Memory → ℕ → ℕ → ℕ
 viewLength s m t p = pick (eqb (viewStatus s m t p) 0) (dataOf (headerAt s m p)) 0
 
--- the part by numbers: store 0 is the permanent one, 1 the scratch
+-- the part by numbers, beside the status: store 0 is the permanent one, 1 the scratch
 unfoldable pub partOf : State → Memory → ℕ → ℕ → Part
 partOf s m t p = record {
   status = viewStatus s m t p;
@@ -34,7 +34,7 @@ partOf s m t p = record {
   len = viewLength s m t p;
 }
 
--- a part that begins there, from where the two stores begin: in that store itself, 8 bytes to a word
+-- a part that begins there, from where the two stores begin: in "the permanent or scratch store itself", 8 bytes to a word
 pub record PlacedView (part permanent scratch : ℕ × ℕ) (s : State) (m : Memory) (t p : ℕ) : Type 0 where
   pub store-is : part .0 ≡ viewStore s m t p permanent scratch .0
   pub place-is : part .1 ≡ viewFrom s m t p * 8 + viewStore s m t p permanent scratch .1
