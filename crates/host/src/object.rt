@@ -3,12 +3,12 @@
 use layout::stack::Answer;
 use tables::Bytes;
 use tables::Words;
-use views::Part;
+use views::ViewPlace;
 ghost use mathlib.Core.Path.{_≡_};
 ghost use Rattle.model.specs.Calls as calls;
 ghost use Rattle.tables.specs.Decode.{stateOf};
 ghost use Rattle.tables.specs.Contract.{memoryOf, Ready, Done, Told, Written};
-ghost use Rattle.views.specs.PlacedView.{partOf};
+ghost use Rattle.views.specs.PlacedView.{viewPlaceOf};
 
 // Op 06: an object with so many slots and data words in the current area; the value is its handle.
 #[no_mangle]
@@ -152,9 +152,9 @@ pub extern "C" fn scopes_view_place(
     map: &[u64],
     t: u64,
     object: u64,
-) -> Part
+) -> ViewPlace
     requires { ⌜ Ready (now words) (now bytes) ⌝ }
-    ensures { λ r. ⌜ r ≡ partOf (stateOf (now (words .entry)) (now (bytes .entry))) (memoryOf (now (permanent .entry)) (now (scratch .entry)) (now (map .entry))) t object ⌝ }
+    ensures { λ r. ⌜ r ≡ viewPlaceOf (stateOf (now (words .entry)) (now (bytes .entry))) (memoryOf (now (permanent .entry)) (now (scratch .entry)) (now (map .entry))) t object ⌝ }
 {
     views::view_place(words, bytes, permanent, scratch, map, t, object)
 }

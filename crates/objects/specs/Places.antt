@@ -168,10 +168,13 @@ object-live s m p g =
 -- the numbers of what a lookup finds are those of refusals 13 and 15
 pub numbered : (s : State) (m : Memory) (h : ℕ) → Good s → {r : Found} → r ≡ foundOf s m h → (r ≡ foundOf s m h) × Numbered s m h r
 unfolding foundOf refuse isReference
-numbered s m h g e = (e, record {
-  as-object = rw (e, object-live s m h g) (cases (live s m h) (λ k. rw k) (λ k. rw k));
-  as-reference = λ n. rw (e, ne-eqb h 0 n) (cases (live s m h) (λ k. rw k) (λ k. rw k));
-})
+numbered s m h g e = (
+  e,
+  record {
+    as-object = rw (e, object-live s m h g) (cases (live s m h) (λ k. rw k) (λ k. rw k));
+    as-reference = λ n. rw (e, ne-eqb h 0 n) (cases (live s m h) (λ k. rw k) (λ k. rw k));
+  },
+)
 
 -- ---- the object that a handle leads to
 

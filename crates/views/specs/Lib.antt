@@ -1,3 +1,3 @@
 -- The shown part: where it lies, and the laws of how it is found.
 pub mod PlacedView
-pub mod Parts
+pub mod ViewLaws

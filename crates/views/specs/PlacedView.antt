@@ -10,7 +10,7 @@ use Rattle.model.specs.State.{State, Memory, isScope}
 use Rattle.model.specs.Checks.{headerAt}
 use Rattle.model.specs.References.{placeAfter}
 use Rattle.model.specs.Data.{dataIndex, viewStatus}
-use Rattle.views.specs.declared.Part.{Part}
+use Rattle.views.specs.declared.ViewPlace.{ViewPlace}
 
 -- "shown as a part of the permanent or scratch store itself": of two things, one for each store, that of the store that is shown a part of:
 -- the store of the object's area, the permanent store where the call is refused
@@ -26,8 +26,8 @@ unfoldable pub viewLength : State → Memory → ℕ → ℕ → ℕ
 viewLength s m t p = pick (eqb (viewStatus s m t p) 0) (dataOf (headerAt s m p)) 0
 
 -- the part by numbers, beside the status: store 0 is the permanent one, 1 the scratch
-unfoldable pub partOf : State → Memory → ℕ → ℕ → Part
-partOf s m t p = record {
+unfoldable pub viewPlaceOf : State → Memory → ℕ → ℕ → ViewPlace
+viewPlaceOf s m t p = record {
   status = viewStatus s m t p;
   store = viewStore s m t p 0 1;
   from = viewFrom s m t p;
@@ -35,6 +35,6 @@ partOf s m t p = record {
 }
 
 -- a part that begins there, from where the two stores begin: in "the permanent or scratch store itself", 8 bytes to a word
-pub record PlacedView (part permanent scratch : ℕ × ℕ) (s : State) (m : Memory) (t p : ℕ) : Type 0 where
-  pub store-is : part .0 ≡ viewStore s m t p permanent scratch .0
-  pub place-is : part .1 ≡ viewFrom s m t p * 8 + viewStore s m t p permanent scratch .1
+pub record PlacedView (slice permanent scratch : ℕ × ℕ) (s : State) (m : Memory) (t p : ℕ) : Type 0 where
+  pub store-is : slice .0 ≡ viewStore s m t p permanent scratch .0
+  pub place-is : slice .1 ≡ viewFrom s m t p * 8 + viewStore s m t p permanent scratch .1

@@ -14,12 +14,12 @@ ghost use Rattle.tables.specs.Decode.{stateOf};
 ghost use Rattle.tables.specs.Contract.{memoryOf, Ready, Told};
 ghost use Rattle.objects.specs.Found.{objectOf};
 ghost use Rattle.access.specs.Spots.{spotOf};
-ghost use Rattle.views.specs.PlacedView.{partOf, PlacedView};
+ghost use Rattle.views.specs.PlacedView.{viewPlaceOf, PlacedView};
 
-// A shown part by numbers: the status of the call; store 0 for the permanent one, 1 for the scratch;
+// Where a shown part lies, by numbers: the status of the call; store 0 for the permanent one, 1 for the scratch;
 // which of its words is the first that is shown, and how many are. Refused: all 0 but the status.
 #[repr(C)]
-pub struct Part {
+pub struct ViewPlace {
     pub status: u64,
     pub store: u64,
     pub from: u64,
@@ -65,18 +65,18 @@ pub fn view_place(
     map: &[u64],
     t: u64,
     p: u64,
-) -> Part
+) -> ViewPlace
     requires { ⌜ Ready (now words) (now bytes) ⌝ }
-    ensures { λ r. ⌜ r ≡ partOf (stateOf (now (words .entry)) (now (bytes .entry))) (memoryOf (now (permanent .entry)) (now (scratch .entry)) (now (map .entry))) t p ⌝ }
+    ensures { λ r. ⌜ r ≡ viewPlaceOf (stateOf (now (words .entry)) (now (bytes .entry))) (memoryOf (now (permanent .entry)) (now (scratch .entry)) (now (map .entry))) t p ⌝ }
 {
     match check_view(words, bytes, permanent, scratch, map, t, p) {
-        Spot::Refused(n) => Part {
+        Spot::Refused(n) => ViewPlace {
             status: n,
             store: 0,
             from: 0,
             len: 0,
         },
-        Spot::In(o) => Part {
+        Spot::In(o) => ViewPlace {
             status: 0,
             store: store_of(o.area),
             from: o.at as u64 + 1 + o.slots,
@@ -100,10 +100,10 @@ pub fn view<'a>(
     ensures { λ r. ⌜ now r ≡ viewWords (stateOf (now (words .entry)) (now (bytes .entry))) (memoryOf (now (permanent .entry)) (now (scratch .entry)) (now (map .entry))) t p ⌝ }
     ensures { λ r. ⌜ PlacedView (r .ptr) (permanent .entry .ptr) (scratch .entry .ptr) (stateOf (now (words .entry)) (now (bytes .entry))) (memoryOf (now (permanent .entry)) (now (scratch .entry)) (now (map .entry))) t p ⌝ }
 {
-    let part = view_place(words, bytes, permanent, scratch, map, t, p);
-    let from = part.from as usize;
-    let to = from + part.len as usize;
-    if part.store == 0 {
+    let place = view_place(words, bytes, permanent, scratch, map, t, p);
+    let from = place.from as usize;
+    let to = from + place.len as usize;
+    if place.store == 0 {
         return &permanent[from..to];
     }
     &scratch[from..to]

@@ -6,7 +6,7 @@ use Rattle.tables.specs.Decode.{stateOf}
 use Rattle.tables.specs.Contract.{memoryOf}
 use Prim.Native.Nat.{_+_, _≤_}
 use native.Mathlib.Omega.{arith}
-use Rattle.views.specs.Parts.{part-low, permanent-end, scratch-end, view-permanent, view-scratch}
+use Rattle.views.specs.ViewLaws.{place-low, permanent-end, scratch-end, view-permanent, view-scratch}
 use Rattle.views.proofs.view.Statement.{statement}
 use Rattle.views.proofs.view.Tie as tie
 
@@ -20,7 +20,7 @@ abbrev memory : tie.After-view-place → Memory
 memory c = memoryOf (now (start c .args .permanent)) (now (start c .args .scratch)) (now (start c .args .map))
 
 low : (c : tie.After-view-place) → c .view-place .result .from + c .view-place .result .len ≤ 16384
-low c = part-low (state c) (memory c) (start c .args .t) (start c .args .p) _ (c .view-place .ensures) (start c .pre .good)
+low c = place-low (state c) (memory c) (start c .args .t) (start c .args .p) _ (c .view-place .ensures) (start c .pre .good)
 
 view-place-requires : tie.Need-view-place-requires
 view-place-requires c κs = search needs

@@ -10,7 +10,7 @@ use Rattle.model.specs.Checks.{useStatus}
 use Rattle.objects.specs.Found.{objectOf}
 use Rattle.objects.specs.Places.{Lies}
 use Rattle.access.specs.Spots.{spot-in, spot-refused}
-use Rattle.views.specs.Parts.{part-refused, part-accepted, object-in}
+use Rattle.views.specs.ViewLaws.{place-refused, place-accepted, object-in}
 use Rattle.views.proofs.view_place.Statement.{statement}
 use Rattle.views.proofs.view_place.Tie as tie
 
@@ -55,13 +55,13 @@ returns : tie.Need-returns
 returns c =
     let d = c .before .before .before in
     let e = spot-refused _ (sym (c .before .n .given .1) ∙ d .check-view .ensures) in
-    part-refused (state d) (memory d) (start d .args .t) (start d .args .p) (e .0) (e .1)
+    place-refused (state d) (memory d) (start d .args .t) (start d .args .p) (e .0) (e .1)
 
 returns-2 : tie.Need-returns-2
 returns-2 c =
     let k = c .before .before .before in
     let d = past k in
-    rw (c .before .store-of .ensures) (part-accepted (state d) (memory d) (start d .args .t) (start d .args .p) (used k .0) _ (used k .1))
+    rw (c .before .store-of .ensures) (place-accepted (state d) (memory d) (start d .args .t) (start d .args .p) (used k .0) _ (used k .1))
 
 pub view-place-spec : {M : Type 1} → statement M
 view-place-spec =

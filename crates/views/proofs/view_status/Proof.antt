@@ -8,7 +8,7 @@ use Rattle.tables.specs.Contract.{memoryOf}
 use Rattle.model.specs.Calls as calls
 use Rattle.threads.specs.Outcomes.{told-refused, told-accepted}
 use Rattle.access.specs.Spots.{spot-in, spot-refused}
-use Rattle.views.specs.Parts.{view-is}
+use Rattle.views.specs.ViewLaws.{view-is}
 use Rattle.views.proofs.view_status.Statement.{statement}
 use Rattle.views.proofs.view_status.Tie as tie
 

@@ -22,10 +22,10 @@ use Rattle.model.proofs.Accepted.{use-ok}
 use Rattle.objects.specs.declared.find.Object.{Object}
 use Rattle.objects.specs.Found.{objectOf}
 use Rattle.objects.specs.Places.{Lies}
-use Rattle.views.specs.declared.Part.{Part}
+use Rattle.views.specs.declared.ViewPlace.{ViewPlace}
 use Rattle.access.specs.Statuses.{object-area, object-words}
 use Rattle.access.specs.Effects.{place-is, index-is, object-lies}
-use Rattle.views.specs.PlacedView.{viewStore, viewFrom, viewLength, partOf, PlacedView}
+use Rattle.views.specs.PlacedView.{viewStore, viewFrom, viewLength, viewPlaceOf, PlacedView}
 
 module _ (s : State) (m : Memory) (t p : ℕ) where
   pub view-is : useStatus s m t p 0 ≡ viewStatus s m t p
@@ -34,9 +34,9 @@ module _ (s : State) (m : Memory) (t p : ℕ) where
 
   -- ---- what is shown, by numbers: of a refused call
 
-  pub part-refused : {n : ℕ} → n ≡ useStatus s m t p 0 → n ≢ 0 → record { status = n; store = 0; from = 0; len = 0 } ≡ partOf s m t p
-  unfolding partOf viewStore viewFrom viewLength
-  part-refused e h = rw (ne-eqb (viewStatus s m t p) 0 (λ z. h (e ∙ view-is ∙ z)), ← view-is, ← e) refl
+  pub place-refused : {n : ℕ} → n ≡ useStatus s m t p 0 → n ≢ 0 → record { status = n; store = 0; from = 0; len = 0 } ≡ viewPlaceOf s m t p
+  unfolding viewPlaceOf viewStore viewFrom viewLength
+  place-refused e h = rw (ne-eqb (viewStatus s m t p) 0 (λ z. h (e ∙ view-is ∙ z)), ← view-is, ← e) refl
 
   -- of an accepted one, with its object
   module _ (z : useStatus s m t p 0 ≡ 0) (o : Object) (e : o ≡ objectOf s m p) where
@@ -54,9 +54,9 @@ module _ (s : State) (m : Memory) (t p : ℕ) where
         let d : o .slots + 0 ≡ o .slots = omega arith in
         ap (λ (i : ℕ). o .at + 1 + i) (sym d ∙ index-is s m p o e 0) ∙ place-is s m p o e (dataIndex s m p 0)
 
-    pub part-accepted : record { status = 0; store = pick (isScope (o .area)) 1 0; from = o .at + 1 + o .slots; len = o .words } ≡ partOf s m t p
-    unfolding partOf viewStore viewFrom viewLength
-    part-accepted = rw (accepted, area-is, words-is, from-is) refl
+    pub place-accepted : record { status = 0; store = pick (isScope (o .area)) 1 0; from = o .at + 1 + o .slots; len = o .words } ≡ viewPlaceOf s m t p
+    unfolding viewPlaceOf viewStore viewFrom viewLength
+    place-accepted = rw (accepted, area-is, words-is, from-is) refl
 
     pub object-in : Good s → Lies m o
     object-in g = object-lies s m p o e g t (use-ok s m t p 0 z .0)
@@ -96,18 +96,18 @@ module _ (s : State) (m : Memory) (t p : ℕ) where
       (λ k. rw k (omega arith, omega arith))
 
   -- a place that is answered, and the words of one store and where it begins
-  module _ (r : Part) (e : r ≡ partOf s m t p) where
+  module _ (r : ViewPlace) (e : r ≡ viewPlaceOf s m t p) where
     store-is : r .store ≡ viewStore s m t p 0 1
-    unfolding partOf
-    store-is = ap (λ (x : Part). x .store) e
+    unfolding viewPlaceOf
+    store-is = ap (λ (x : ViewPlace). x .store) e
 
     starts : r .from ≡ viewFrom s m t p
-    unfolding partOf
-    starts = ap (λ (x : Part). x .from) e
+    unfolding viewPlaceOf
+    starts = ap (λ (x : ViewPlace). x .from) e
 
     counts : r .len ≡ viewLength s m t p
-    unfolding partOf
-    counts = ap (λ (x : Part). x .len) e
+    unfolding viewPlaceOf
+    counts = ap (λ (x : ViewPlace). x .len) e
 
     ends : (l : List ℕ) → viewStore s m t p (m .permanent) (m .scratch) ≡ l → Good s → r .from + r .len ≤ length l
     ends l el g = omega (arith, room g .1, starts, counts, ap (length {A = ℕ}) el)
@@ -119,8 +119,8 @@ module _ (s : State) (m : Memory) (t p : ℕ) where
         record { store-is = ap (λ (x : ℕ × ℕ). x .0) (sym eb); place-is = rw (starts, ← eb) refl },
       )
 
-    pub part-low : Good s → r .from + r .len ≤ 16384
-    part-low g = omega (arith, room g .0, starts, counts)
+    pub place-low : Good s → r .from + r .len ≤ 16384
+    place-low g = omega (arith, room g .0, starts, counts)
 
     module _ (h : r .store ≡ 0) where
       pub permanent-end : Good s → r .from + r .len ≤ length (m .permanent)
