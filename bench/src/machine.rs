@@ -16,7 +16,9 @@ pub struct Answer {
 }
 
 pub trait Machine {
-    fn set_up() -> Self;
+    fn set_up() -> Self
+    where
+        Self: Sized;
     fn start(&mut self, t: u64, kind: u64) -> Answer;
     fn make(&mut self, t: u64, area: u64, size: u64) -> Answer;
     fn enter(&mut self, t: u64, area: u64) -> Answer;
@@ -254,6 +256,29 @@ macro_rules! plain_side {
 }
 
 plain_side!(Plain, plain, store);
-plain_side!(Walk, plain, store_by_walk);
-plain_side!(Scan, plain, store_by_scan);
 plain_side!(InLine, in_line, store);
+plain_side!(Walk, in_line, store_by_walk);
+plain_side!(Scan, in_line, store_by_scan);
+
+impl InLine {
+    /// One of the rules alone.
+    #[inline(always)]
+    pub fn check(&self, rule: in_line::Rule, t: u64, holder: u64, target: u64) -> bool {
+        rule(&self.state, t, holder as usize, target as usize)
+    }
+}
+
+impl Scan {
+    /// A store that the scan does not decide.
+    pub fn store_by_display(&mut self, t: u64, object: u64, slot: u64, target: u64) -> Answer {
+        run!(
+            in_line::store,
+            &self.state,
+            &mut self.supplied,
+            t,
+            object,
+            slot,
+            target
+        )
+    }
+}
