@@ -22,7 +22,7 @@ lib:
 compare:
 	@scripts/compare
 
-# The archive alone: the bench in C, the Rust wrapper's tests, the exported functions against the second implementation.
+# The archive alone: the bench in C, the Rust wrapper's tests, plain Rust beside the exported functions, these against the second implementation.
 hosts:
 	@scripts/hosts
 

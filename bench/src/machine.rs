@@ -2,18 +2,14 @@
 
 use exports::exports as c;
 
+/// What a call answers, on every side.
+pub use c::Answer;
+
 /// Sizes of the lent buffers, the same on both sides.
 pub const PERMANENT: usize = 2_048;
 pub const HEAP: u64 = 1_024;
 pub const SCRATCH: usize = 16_384;
 pub const MAP: usize = (PERMANENT + SCRATCH) / 64;
-
-/// What a call answers, on every side.
-#[derive(Clone, Copy, Debug, PartialEq, Eq)]
-pub struct Answer {
-    pub status: u64,
-    pub value: u64,
-}
 
 pub trait Machine {
     fn set_up() -> Self
@@ -66,7 +62,7 @@ macro_rules! call {
     ($function:ident, $core:ident, $($number:expr),*) => {{
         let Core { state, supplied } = $core;
         // SAFETY: the state is one of set-up and calls; the buffers are slices with their lengths.
-        let answer = unsafe {
+        unsafe {
             c::$function(
                 state.words.as_mut_ptr(),
                 state.bytes.as_mut_ptr(),
@@ -78,8 +74,7 @@ macro_rules! call {
                 supplied.map.len(),
                 $($number),*
             )
-        };
-        Answer { status: answer.status, value: answer.value }
+        }
     }};
 }
 
