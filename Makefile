@@ -2,9 +2,9 @@
 
 .PHONY: run test prove lib compare hosts soak bench instructions format
 
-# Proves and builds the program, runs it on the specification's example and shows each line with its answer.
+# Proves and builds the program, runs it on the specification's example, or on a list (make run LIST=file), and shows each line with its answer.
 run:
-	@scripts/run $(LIST)
+	@scripts/run $${LIST:+"$$LIST"}
 
 # Everything that the gate runs: each crate proved from nothing, each must-fail edit tried, the program
 # compared with the second implementation, the archive tried from C and Rust. Its last line is 'N passed, 0 failed'.
@@ -22,7 +22,7 @@ lib:
 compare:
 	@scripts/compare
 
-# The archive alone: the bench in C, the Rust wrapper's tests, the exported functions against the second implementation.
+# The archive alone: the bench in C, the Rust wrapper's tests, plain Rust beside the exported functions, these against the second implementation.
 hosts:
 	@scripts/hosts
 

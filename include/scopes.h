@@ -13,7 +13,9 @@
  *    bytes, never make one by hand, and never put an older copy back. The same holds of a scopes_stack.
  *  - Words and bytes that are passed together belong to one state.
  *  - Every pointer is valid for the length beside it (in words, not in bytes), not null, and aligned for its type;
- *    this holds of an empty buffer too. The state and the three buffers do not overlap.
+ *    this holds of an empty buffer too. The state and the three buffers do not overlap. A length other than set-up's is
+ *    no fault: it is refused by 1 before any word of a buffer is touched. So a length beyond the end of its buffer is the
+ *    caller's fault only where it is the length of set-up.
  *  - One call at a time for a state: two calls at once need a lock around them, also where both only read.
  *  - The lent words may hold anything, and a call does what is specified whatever they hold. But what is said of a
  *    whole list of calls (no reference outlives its object) holds only while nothing else writes the permanent
@@ -94,8 +96,9 @@ typedef struct scopes_answer {
 } scopes_answer;
 
 /* What set-up gives: its status, and the state in two tables. Where the status is 1 the state is the one of empty
- * buffers. The tables may stay in this record or be moved elsewhere before the first call; where the words lie at a
- * multiple of 64 bytes and the bytes right behind them, no display crosses a cache line, and entries are fastest. */
+ * buffers. The tables come from scopes_set_up and the calls since alone: nobody else writes them. They may stay in this
+ * record or be moved elsewhere before the first call; where the words lie at a multiple of 64 bytes and the bytes right
+ * behind them, no display crosses a cache line, and entries are fastest. */
 typedef struct scopes_new_state {
     uint64_t status;
     uint64_t words[SCOPES_STATE_WORDS];
@@ -110,7 +113,8 @@ typedef struct scopes_part {
     uint64_t len;
 } scopes_part;
 
-/* One thread's stack as a record that the host's scheduler holds; the top is the last entry. */
+/* One thread's stack as a record that the host's scheduler holds; the top is the last entry. It comes from
+ * scopes_stack_empty and the pushes and pops since alone. */
 typedef struct scopes_stack {
     uint64_t len;
     uint8_t entries[SCOPES_STACK_ENTRIES];

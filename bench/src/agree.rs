@@ -1,87 +1,180 @@
 //! Before anything is measured: plain Rust answers as the exported functions do, by each of its rules,
 //! on random calls. What is compared with the proved core is no other core.
 
+use in_line::{check_by_display, check_by_scan, check_by_walk};
 use reference::random::Random;
 
 use crate::machine::{Answer, Core, InLine, Machine, Plain, Scan, Walk};
 
 const LISTS: u64 = 100;
 const CALLS: u64 = 2_000;
+/// The kinds of the threads, and how many scopes each of them makes.
+const KINDS: [u64; 4] = [2, 2, 1, 3];
+const SCOPES: u64 = 4;
 
-pub fn check() {
+/// Panics where a side differs; else says what was compared.
+pub fn check() -> String {
+    let mut seen = Seen::default();
     for seed in 0..LISTS {
-        let core = answers::<Core>(seed);
-        assert!(
-            core == answers::<Plain>(seed),
-            "plain Rust differs, seed {seed}"
-        );
-        assert!(
-            core == answers::<InLine>(seed),
-            "plain Rust in line differs, seed {seed}"
-        );
-        assert!(
-            core == answers::<Walk>(seed),
-            "the walk differs, seed {seed}"
-        );
-        let scanned = answers::<Scan>(seed);
-        assert!(
-            alike_but_for_the_scan(&core, &scanned),
-            "the scan differs, seed {seed}"
-        );
+        run(seed, &mut seen);
     }
+    let calls = LISTS * CALLS;
+    let [[no, yes], [no_far, yes_far]] = seen.stores;
+    let (near, far) = (no + yes, no_far + yes_far);
+    assert!(
+        no * yes * no_far * yes_far > 0,
+        "each kind of store came up"
+    );
+    format!(
+        "{calls} random calls answered alike; {near} stores were decided by display, walk and scan, \
+         {far} by display and walk"
+    )
 }
 
-/// The scan may refuse by 16 where an area is not on the thread's own stack; later answers may then
-/// differ in what a load yields.
-fn alike_but_for_the_scan(core: &[Answer], scanned: &[Answer]) -> bool {
-    let first = core
-        .iter()
-        .zip(scanned)
-        .find(|(core, scanned)| core != scanned);
-    first.is_none_or(|(core, scanned)| core.status == 0 && scanned.status == 16)
+/// How many stores the assignment rule refused and accepted: between areas on the thread's own stack,
+/// and others.
+#[derive(Default)]
+struct Seen {
+    stores: [[u64; 2]; 2],
 }
 
-/// The answers to a list of calls that depends on the seed and on the answers alone.
-fn answers<M: Machine>(seed: u64) -> Vec<Answer> {
+fn run(seed: u64, seen: &mut Seen) {
     let mut random = Random::new(seed);
-    let mut machine = M::set_up();
-    let mut handles = vec![0];
-    let mut given = Vec::new();
-    for thread in 0..4 {
-        given.push(machine.start(thread, [2, 2, 1, 3][thread as usize]));
-        for scope in 0..4 {
-            let area = 2 + thread * 4 + scope;
-            given.push(machine.make(thread, area, random.between(1, 60)));
+    let mut sides = Sides::set_up(seed);
+    for (thread, kind) in (0..).zip(KINDS) {
+        sides.call(|machine| machine.start(thread, kind));
+        for scope in 0..SCOPES {
+            let (area, size) = (2 + thread * SCOPES + scope, random.between(1, 60));
+            sides.call(|machine| machine.make(thread, area, size));
         }
     }
+    let mut handles = vec![0];
     for _ in 0..CALLS {
-        let answer = any_call(&mut random, &mut machine, &handles);
+        let answer = any_call(&mut random, &mut sides, &handles, seen);
         if answer.status == 0 && answer.value >> 20 > 0 {
             handles.push(answer.value);
         }
-        given.push(answer);
     }
-    given
 }
 
-fn any_call<M: Machine>(random: &mut Random, machine: &mut M, handles: &[u64]) -> Answer {
-    let t = random.below(5);
+fn any_call(random: &mut Random, sides: &mut Sides, handles: &[u64], seen: &mut Seen) -> Answer {
+    let t = random.below(KINDS.len() as u64 + 1);
     let recent = random.below(handles.len().min(30) as u64) as usize;
     let object = handles[handles.len() - 1 - recent];
     let other = handles[random.below(handles.len() as u64) as usize];
     let index = random.below(4);
     match random.below(16) {
-        0..=2 => machine.enter(t, random.below(20)),
-        3..=4 => machine.exit(t),
-        5..=7 => machine.allocate(
-            t,
-            random.below(4),
-            random.below(70) / (1 + random.below(70)),
-        ),
-        8..=9 => machine.store(t, object, index, other),
-        10..=11 => machine.store(t, other, index, object),
-        12..=13 => machine.load(t, object, index),
-        14 => machine.write(t, object, index, random.word() >> 44),
-        _ => machine.read(t, object, index),
+        0..=2 => sides.enter(t, random.below(20)),
+        3..=4 => sides.exit(t),
+        5..=7 => {
+            let (slots, data) = (random.below(4), random.below(70) / (1 + random.below(70)));
+            sides.call(|machine| machine.allocate(t, slots, data))
+        }
+        8..=9 => sides.store(t, object, index, other, seen),
+        10..=11 => sides.store(t, other, index, object, seen),
+        12..=13 => sides.call(|machine| machine.load(t, object, index)),
+        14 => {
+            let word = random.word() >> 44;
+            sides.call(|machine| machine.write(t, object, index, word))
+        }
+        _ => sides.call(|machine| machine.read(t, object, index)),
+    }
+}
+
+/// All sides, which are given the same calls.
+struct Sides {
+    seed: u64,
+    core: Core,
+    plain: Plain,
+    in_line: InLine,
+    walk: Walk,
+    scan: Scan,
+    /// The areas that each thread has entered and not left.
+    rows: [Vec<u64>; KINDS.len() + 1],
+}
+
+impl Sides {
+    fn set_up(seed: u64) -> Sides {
+        Sides {
+            seed,
+            core: Core::set_up(),
+            plain: Plain::set_up(),
+            in_line: InLine::set_up(),
+            walk: Walk::set_up(),
+            scan: Scan::set_up(),
+            rows: Default::default(),
+        }
+    }
+
+    /// A call that the sides answer alike.
+    fn call(&mut self, call: impl Fn(&mut dyn Machine) -> Answer) -> Answer {
+        let answer = self.call_but_scan(&call);
+        let scanned = call(&mut self.scan);
+        self.same("the scan", scanned, answer);
+        answer
+    }
+
+    fn call_but_scan(&mut self, call: impl Fn(&mut dyn Machine) -> Answer) -> Answer {
+        let answer = call(&mut self.core);
+        let others: [(&str, &mut dyn Machine); 3] = [
+            ("plain Rust", &mut self.plain),
+            ("plain Rust in line", &mut self.in_line),
+            ("the walk", &mut self.walk),
+        ];
+        for (name, given) in others.map(|(name, machine)| (name, call(machine))) {
+            self.same(name, given, answer);
+        }
+        answer
+    }
+
+    fn same<T: PartialEq + std::fmt::Debug>(&self, name: &str, given: T, expected: T) {
+        assert_eq!(given, expected, "{name} differs, seed {}", self.seed);
+    }
+
+    fn enter(&mut self, t: u64, area: u64) -> Answer {
+        let answer = self.call(|machine| machine.enter(t, area));
+        if answer.status == 0 {
+            self.rows[t as usize].push(area);
+        }
+        answer
+    }
+
+    fn exit(&mut self, t: u64) -> Answer {
+        let answer = self.call(|machine| machine.exit(t));
+        if answer.status == 0 {
+            self.rows[t as usize].pop();
+        }
+        answer
+    }
+
+    /// The scan decides where both areas stand on the thread's own stack; the display decides for it
+    /// elsewhere, so that the sides hold the same words.
+    fn store(&mut self, t: u64, object: u64, slot: u64, target: u64, seen: &mut Seen) -> Answer {
+        let answer = self.call_but_scan(|machine| machine.store(t, object, slot, target));
+        let areas = [object, target].map(|handle| handle >> 14 & 0x3f);
+        let row = &self.rows[t as usize];
+        let near = areas.iter().all(|area| *area < 2 || row.contains(area));
+        let scanned = if near {
+            self.scan.store(t, object, slot, target)
+        } else {
+            self.scan.store_by_display(t, object, slot, target)
+        };
+        self.same("the scan", scanned, answer);
+        if target != 0 && [0, 16].contains(&answer.status) {
+            let allowed = answer.status == 0;
+            self.compare_rules(t, areas, near, allowed);
+            seen.stores[usize::from(!near)][usize::from(allowed)] += 1;
+        }
+        answer
+    }
+
+    /// The rules by themselves say what the store said.
+    fn compare_rules(&self, t: u64, [holder, target]: [u64; 2], near: bool, allowed: bool) {
+        let check = |rule| self.in_line.check(rule, t, holder, target);
+        self.same("the display's rule", check(check_by_display), allowed);
+        self.same("the walk's rule", check(check_by_walk), allowed);
+        if near {
+            self.same("the scan's rule", check(check_by_scan), allowed);
+        }
     }
 }

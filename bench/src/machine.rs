@@ -2,21 +2,19 @@
 
 use exports::exports as c;
 
+/// What a call answers, on every side.
+pub use c::Answer;
+
 /// Sizes of the lent buffers, the same on both sides.
 pub const PERMANENT: usize = 2_048;
 pub const HEAP: u64 = 1_024;
 pub const SCRATCH: usize = 16_384;
 pub const MAP: usize = (PERMANENT + SCRATCH) / 64;
 
-/// What a call answers, on every side.
-#[derive(Clone, Copy, Debug, PartialEq, Eq)]
-pub struct Answer {
-    pub status: u64,
-    pub value: u64,
-}
-
 pub trait Machine {
-    fn set_up() -> Self;
+    fn set_up() -> Self
+    where
+        Self: Sized;
     fn start(&mut self, t: u64, kind: u64) -> Answer;
     fn make(&mut self, t: u64, area: u64, size: u64) -> Answer;
     fn enter(&mut self, t: u64, area: u64) -> Answer;
@@ -64,7 +62,7 @@ macro_rules! call {
     ($function:ident, $core:ident, $($number:expr),*) => {{
         let Core { state, supplied } = $core;
         // SAFETY: the state is one of set-up and calls; the buffers are slices with their lengths.
-        let answer = unsafe {
+        unsafe {
             c::$function(
                 state.words.as_mut_ptr(),
                 state.bytes.as_mut_ptr(),
@@ -76,8 +74,7 @@ macro_rules! call {
                 supplied.map.len(),
                 $($number),*
             )
-        };
-        Answer { status: answer.status, value: answer.value }
+        }
     }};
 }
 
@@ -254,6 +251,29 @@ macro_rules! plain_side {
 }
 
 plain_side!(Plain, plain, store);
-plain_side!(Walk, plain, store_by_walk);
-plain_side!(Scan, plain, store_by_scan);
 plain_side!(InLine, in_line, store);
+plain_side!(Walk, in_line, store_by_walk);
+plain_side!(Scan, in_line, store_by_scan);
+
+impl InLine {
+    /// One of the rules alone.
+    #[inline(always)]
+    pub fn check(&self, rule: in_line::Rule, t: u64, holder: u64, target: u64) -> bool {
+        rule(&self.state, t, holder as usize, target as usize)
+    }
+}
+
+impl Scan {
+    /// A store that the scan does not decide.
+    pub fn store_by_display(&mut self, t: u64, object: u64, slot: u64, target: u64) -> Answer {
+        run!(
+            in_line::store,
+            &self.state,
+            &mut self.supplied,
+            t,
+            object,
+            slot,
+            target
+        )
+    }
+}

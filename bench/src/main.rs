@@ -1,7 +1,8 @@
 //! Measures the exported functions beside plain Rust and writes the report in Markdown.
 //!
 //! `bench PLOT.svg` prints the report and writes the plot; it measures by running `bench times` again and
-//! again. `bench count ROW SIDE CALLS` only makes the calls of a row on one side, for a tool that counts
+//! again. `bench agree` only tries whether the sides answer alike, which is tried before measuring too.
+//! `bench count ROW SIDE CALLS` only makes the calls of a row on one side, for a tool that counts
 //! instructions; `bench rows` names the rows.
 
 mod agree;
@@ -65,8 +66,8 @@ fn row_loop<M: Machine + 'static>(row: usize) -> Loop {
     }
 }
 
-/// The times of this process: those of the rows, then those of the reference check at nesting distances on
-/// a stack of 32 scopes.
+/// The times of this process: those of the rows, then those of stores at nesting distances on a stack of 32
+/// scopes, then those of the reference check alone.
 fn times() -> Times {
     let rows = (0..ROWS.len()).flat_map(|row| {
         [
@@ -79,13 +80,24 @@ fn times() -> Times {
     let checks = DISTANCES.iter().flat_map(|&distance| {
         [
             store_loop::<Core>(distance),
-            store_loop::<Plain>(distance),
+            store_loop::<InLine>(distance),
             store_loop::<Walk>(distance),
             store_loop::<Scan>(distance),
         ]
     });
     let checks = measure::best(&mut checks.collect::<Vec<Loop>>());
-    let lines = rows.chunks(3).chain(checks.chunks(4));
+    let rules = DISTANCES.iter().flat_map(|&distance| {
+        [
+            rule_loop(distance, in_line::check_by_display),
+            rule_loop(distance, in_line::check_by_walk),
+            rule_loop(distance, in_line::check_by_scan),
+        ]
+    });
+    let rules = measure::best(&mut rules.collect::<Vec<Loop>>());
+    let lines = rows
+        .chunks(3)
+        .chain(checks.chunks(4))
+        .chain(rules.chunks(3));
     lines.map(<[f64]>::to_vec).collect()
 }
 
@@ -105,8 +117,7 @@ fn figures(runs: &[Times]) -> Vec<report::Figure> {
 
 fn checks(runs: &[Times]) -> Vec<report::Check> {
     let check = |(place, &distance): (usize, &u64)| {
-        let line = ROWS.len() + place;
-        let middle = |side: usize| Spread::of(runs.iter().map(|times| times[line][side])).middle;
+        let middle = |side| middle(runs, ROWS.len() + place, side);
         report::Check {
             distance,
             core: middle(0),
@@ -118,18 +129,38 @@ fn checks(runs: &[Times]) -> Vec<report::Check> {
     DISTANCES.iter().enumerate().map(check).collect()
 }
 
+fn rules(runs: &[Times]) -> Vec<report::Rules> {
+    let rule = |(place, &distance): (usize, &u64)| {
+        let middle = |side| middle(runs, ROWS.len() + DISTANCES.len() + place, side);
+        report::Rules {
+            distance,
+            display: middle(0),
+            walk: middle(1),
+            scan: middle(2),
+        }
+    };
+    DISTANCES.iter().enumerate().map(rule).collect()
+}
+
+/// The middle time of a side in a line of all runs.
+fn middle(runs: &[Times], line: usize, side: usize) -> f64 {
+    Spread::of(runs.iter().map(|times| times[line][side])).middle
+}
+
 fn store_loop<M: Machine + 'static>(distance: u64) -> Loop {
     let mut nest = Nest::<M>::new(32);
     Box::new(move |calls| nest.store(calls, distance))
 }
 
+fn rule_loop(distance: u64, rule: in_line::Rule) -> Loop {
+    let nest = Nest::<InLine>::new(32);
+    Box::new(move |calls| nest.check(calls, distance, rule))
+}
+
 /// Makes the calls of a row on one side and nothing else.
-fn count(words: &[String]) -> Option<()> {
-    let [row, side, calls] = words else {
-        return None;
-    };
+fn count(row: &str, side: &str, calls: &str) -> Option<()> {
     let place = ROWS.iter().position(|r| r.name == row)?;
-    let mut run = match side.as_str() {
+    let mut run = match side {
         "core" => row_loop::<Core>(place),
         "plain" => row_loop::<Plain>(place),
         "in_line" => row_loop::<InLine>(place),
@@ -139,36 +170,35 @@ fn count(words: &[String]) -> Option<()> {
     Some(())
 }
 
-fn main() {
-    let words: Vec<String> = std::env::args().skip(1).collect();
-    let done = match words.split_first() {
-        Some((word, rest)) if word == "count" => count(rest),
-        Some((word, [])) if word == "rows" => {
-            ROWS.iter().for_each(|row| println!("{}", row.name));
-            Some(())
-        }
-        Some((word, [])) if word == "times" => {
-            runs::print(&times());
-            Some(())
-        }
-        Some((plot, [])) => {
-            measure_all(plot);
-            Some(())
-        }
-        _ => None,
-    };
-    if done.is_none() {
-        eprintln!(
-            "usage: bench PLOT.svg, bench times, bench rows, or bench count ROW core|plain|in_line CALLS"
-        );
-        std::process::exit(2);
-    }
-}
-
 fn measure_all(plot: &str) {
     agree::check();
     let runs = runs::repeat(RUNS);
     let checks = checks(&runs);
-    report::print(&figures(&runs), &checks);
+    report::print(&figures(&runs), &checks, &rules(&runs));
     std::fs::write(plot, plot::svg(&checks)).expect("the plot can be written");
+}
+
+/// Does what the words ask for, where they do.
+fn obey(words: &[&str]) -> Option<()> {
+    match *words {
+        ["count", row, side, calls] => count(row, side, calls)?,
+        ["agree"] => println!("{}", agree::check()),
+        ["rows"] => ROWS.iter().for_each(|row| println!("{}", row.name)),
+        ["times"] => runs::print(&times()),
+        [plot] if plot.ends_with(".svg") => measure_all(plot),
+        _ => return None,
+    }
+    Some(())
+}
+
+fn main() {
+    let words: Vec<String> = std::env::args().skip(1).collect();
+    let words: Vec<&str> = words.iter().map(String::as_str).collect();
+    if obey(&words).is_none() {
+        eprintln!(
+            "usage: bench PLOT.svg, bench agree, bench times, bench rows, \
+             or bench count ROW core|plain|in_line CALLS"
+        );
+        std::process::exit(2);
+    }
 }

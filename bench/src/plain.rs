@@ -467,7 +467,8 @@ fn distance(stack: &[u8], area: usize) -> Option<usize> {
     stack.iter().rev().position(|&entry| entry as usize == area)
 }
 
-type Rule = fn(&State, u64, usize, usize) -> bool;
+/// Whether a thread may store a target of an area in a holder of an area.
+pub type Rule = fn(&State, u64, usize, usize) -> bool;
 
 #[inline(always)]
 #[allow(clippy::too_many_arguments)]
@@ -524,6 +525,22 @@ stores! {
     store by_display;
     store_by_walk by_walk;
     store_by_scan by_scan;
+}
+
+/// Each of the three rules by itself.
+macro_rules! checks {
+    ($($name:ident $rule:ident;)*) => {
+        $(#[inline(never)]
+        pub fn $name(st: &State, t: u64, holder: usize, target: usize) -> bool {
+            $rule(st, t, holder, target)
+        })*
+    };
+}
+
+checks! {
+    check_by_display by_display;
+    check_by_walk by_walk;
+    check_by_scan by_scan;
 }
 
 #[inline(never)]

@@ -21,7 +21,8 @@ impl Figure {
     }
 }
 
-/// A store at a nesting distance, nanoseconds: the exported one, and plain Rust by the three rules.
+/// A store at a nesting distance, nanoseconds: the exported one, and plain Rust, all in line, by the three
+/// rules.
 pub struct Check {
     pub distance: u64,
     pub core: f64,
@@ -30,12 +31,22 @@ pub struct Check {
     pub scan: f64,
 }
 
-pub fn print(figures: &[Figure], checks: &[Check]) {
+/// The three rules alone at a nesting distance, nanoseconds.
+pub struct Rules {
+    pub distance: u64,
+    pub display: f64,
+    pub walk: f64,
+    pub scan: f64,
+}
+
+pub fn print(figures: &[Figure], checks: &[Check], rules: &[Rules]) {
     print_figures(figures);
     println!();
     print_checks(checks);
     println!();
     println!("{}", flatness(checks));
+    println!();
+    print_rules(rules);
 }
 
 fn print_figures(figures: &[Figure]) {
@@ -63,8 +74,8 @@ fn print_figures(figures: &[Figure]) {
 
 fn print_checks(checks: &[Check]) {
     println!(
-        "| distance | display, exported | display, plain | walk of parents | scan of stack \
-         | exported / plain | walk / exported | scan / exported |"
+        "| distance | exported | display, plain | walk of parents | scan of stack \
+         | exported / display | walk / display | scan / display |"
     );
     println!("|---|---|---|---|---|---|---|---|");
     for check in checks {
@@ -76,8 +87,27 @@ fn print_checks(checks: &[Check]) {
             check.walk,
             check.scan,
             check.core / check.display,
-            check.walk / check.core,
-            check.scan / check.core
+            check.walk / check.display,
+            check.scan / check.display
+        );
+    }
+}
+
+fn print_rules(rules: &[Rules]) {
+    println!(
+        "| distance, the check alone | display | walk of parents | scan of stack \
+         | walk / display | scan / display |"
+    );
+    println!("|---|---|---|---|---|---|");
+    for rule in rules {
+        println!(
+            "| {} | {:.2} ns | {:.2} ns | {:.2} ns | {:.2} | {:.2} |",
+            rule.distance,
+            rule.display,
+            rule.walk,
+            rule.scan,
+            rule.walk / rule.display,
+            rule.scan / rule.display
         );
     }
 }

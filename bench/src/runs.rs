@@ -1,7 +1,7 @@
 //! The measurement, repeated in processes of their own: where a process's memory and stack lie moves
 //! some times. The middle of the runs counts, and how far they lie apart is told.
 
-use std::process::Command;
+use std::process::{Command, Stdio};
 
 /// Nanoseconds: a line for each loop that is compared, a number for each side of it.
 pub type Times = Vec<Vec<f64>>;
@@ -10,7 +10,9 @@ pub type Times = Vec<Vec<f64>>;
 pub fn repeat(runs: usize) -> Vec<Times> {
     let program = std::env::current_exe().expect("this program has a path");
     let run = |_| {
-        let output = Command::new(&program).arg("times").output();
+        // Why a run failed is seen on standard error.
+        let mut times = Command::new(&program);
+        let output = times.arg("times").stderr(Stdio::inherit()).output();
         let output = output.expect("this program can be run again");
         assert!(output.status.success(), "a run of the measurement failed");
         parse(&String::from_utf8_lossy(&output.stdout))

@@ -2,7 +2,7 @@
 
 use std::hint::black_box;
 
-use crate::machine::{Answer, Machine, SCRATCH};
+use crate::machine::{Answer, InLine, Machine, SCRATCH};
 
 /// The thread of all calls; it is real-time, so that it may do everything.
 const T: u64 = 0;
@@ -106,6 +106,19 @@ impl<M: Machine> Nest<M> {
         }
         ok(self.machine.enter(T, scope));
         ok(self.machine.exit(T));
+    }
+}
+
+impl Nest<InLine> {
+    /// A rule alone, from the innermost scope to an ancestor.
+    pub fn check(&self, calls: u64, distance: u64, rule: in_line::Rule) {
+        let holder = FIRST_SCOPE + self.depth - 1;
+        let target = holder - distance;
+        for _ in 0..calls {
+            let (holder, target) = (black_box(holder), black_box(target));
+            black_box(self.machine.check(rule, T, holder, target));
+        }
+        assert!(self.machine.check(rule, T, holder, target));
     }
 }
 

@@ -21,10 +21,53 @@ static scopes_new_state core;
 /* The state and the buffers, as every call takes them. */
 #define SUPPLIED core.words, core.bytes, permanent, PERMANENT_WORDS, scratch, SCRATCH_WORDS, map, MAP_WORDS
 
-/* One line for a call: what it is, its status and its value. Yields the value. */
+/* The records are laid out as the archive has them. */
+_Static_assert(sizeof(((scopes_new_state *)0)->words) == 4384, "words of a state");
+_Static_assert(sizeof(((scopes_new_state *)0)->bytes) == 3072, "bytes of a state");
+_Static_assert(sizeof(scopes_new_state) == 8 + 4384 + 3072, "what set-up gives");
+_Static_assert(sizeof(scopes_answer) == 16, "an answer");
+_Static_assert(sizeof(scopes_part) == 32, "a part");
+_Static_assert(sizeof(scopes_stack) == 40, "a stack");
+
+#define NAMED(status) case status: return #status
+
+static const char *name_of(uint64_t status)
+{
+    switch (status) {
+        NAMED(SCOPES_OK);
+        NAMED(SCOPES_LENGTHS);
+        NAMED(SCOPES_THREAD);
+        NAMED(SCOPES_STARTED);
+        NAMED(SCOPES_KIND);
+        NAMED(SCOPES_RIGHT);
+        NAMED(SCOPES_AREA);
+        NAMED(SCOPES_MADE);
+        NAMED(SCOPES_SIZE);
+        NAMED(SCOPES_STACK_FULL);
+        NAMED(SCOPES_PARENT);
+        NAMED(SCOPES_ENTRIES);
+        NAMED(SCOPES_ROOM);
+        NAMED(SCOPES_OBJECT);
+        NAMED(SCOPES_INDEX);
+        NAMED(SCOPES_TARGET);
+        NAMED(SCOPES_ASSIGNMENT);
+        NAMED(SCOPES_GENERATIONS_OUT);
+        NAMED(SCOPES_NO_FRAME);
+        default: return "no status";
+    }
+}
+
+/* The first part of a call's line: what it is, its status and the status's name. */
+static void show_status(const char *call, uint64_t status)
+{
+    printf("%-62s status %2" PRIu64 " %-17s", call, status, name_of(status));
+}
+
+/* One line for a call, with its value. Yields the value. */
 static uint64_t show(const char *call, scopes_answer answer)
 {
-    printf("%-62s status %2" PRIu64 "  value %" PRIu64 "\n", call, answer.status, answer.value);
+    show_status(call, answer.status);
+    printf("  value %" PRIu64 "\n", answer.value);
     return answer.value;
 }
 
@@ -36,7 +79,7 @@ static void title(const char *words)
 static void begin(void)
 {
     core = scopes_set_up(permanent, PERMANENT_WORDS, scratch, SCRATCH_WORDS, map, MAP_WORDS, HEAP_WORDS, IMMORTAL_WORDS);
-    printf("set-up gives status %" PRIu64 "\n", core.status);
+    printf("set-up gives status %" PRIu64 " %s\n", core.status, name_of(core.status));
     show("meter starts, real-time", scopes_start(SUPPLIED, METER, SCOPES_REAL_TIME));
     show("helper starts, real-time", scopes_start(SUPPLIED, HELPER, SCOPES_REAL_TIME));
     show("plotter starts, real-time", scopes_start(SUPPLIED, PLOTTER, SCOPES_REAL_TIME));
@@ -71,7 +114,8 @@ static void parent_left_under_child(void)
 static void show_part(const char *call, scopes_part part)
 {
     const uint64_t *store = part.store == 0 ? permanent : scratch;
-    printf("%-62s status %2" PRIu64 "  words", call, part.status);
+    show_status(call, part.status);
+    printf("  words");
     for (uint64_t i = 0; i < part.len; i++) {
         printf(" %" PRIu64, store[part.from + i]);
     }

@@ -1,11 +1,13 @@
-//! Finds the archive `libscopes.a` that `make lib` installs: in the folder that SCOPES_LIB names,
-//! else in `target/lib` of the repository.
+//! Finds the archive `libscopes.a` that `make lib` installs: in the folder that SCOPES_LIB names (a
+//! whole path, or one from this crate's folder), else in `target/lib` of the repository.
 
 use std::env;
 use std::path::{Path, PathBuf};
 
 fn main() {
-    let folder = archive_folder();
+    let named = archive_folder();
+    // A whole path, since rustc runs in another folder than this.
+    let folder = named.canonicalize().unwrap_or(named);
     let archive = folder.join("libscopes.a");
     assert!(
         archive.is_file(),

@@ -1,5 +1,9 @@
 //! The core: a state with the memory that is lent to its calls.
 
+use std::cell::Cell;
+use std::fmt;
+use std::marker::PhantomData;
+
 use crate::names::{slot_word, Area, Handle, Kind, Thread};
 use crate::refusal::{check, value, Refusal};
 use crate::sys::{self, Memory, State};
@@ -10,10 +14,12 @@ pub const fn map_words(permanent: usize, scratch: usize) -> usize {
 }
 
 /// A state and its three buffers, borrowed for as long as it lives. It cannot be copied; calls that
-/// only look take `&self`.
+/// only look take `&self`. It may move to another thread, but threads do not share it without a lock.
 pub struct Core<'m> {
     state: State,
     memory: Memory<'m>,
+    /// Keeps it from being `Sync`: one call at a time, also where both only read.
+    not_sync: PhantomData<Cell<()>>,
 }
 
 impl<'m> Core<'m> {
@@ -35,7 +41,11 @@ impl<'m> Core<'m> {
         };
         let (status, state) = sys::set_up(&memory, heap, immortal);
         check(status)?;
-        Ok(Core { state, memory })
+        Ok(Core {
+            state,
+            memory,
+            not_sync: PhantomData,
+        })
     }
 
     /// Starts a thread. Refusals 2, 3.
@@ -194,5 +204,16 @@ impl<'m> Core<'m> {
     /// The words of the start map, to look at.
     pub fn map(&self) -> &[u64] {
         self.memory.map
+    }
+}
+
+/// The buffers' lengths alone: the tables are nobody's to read.
+impl fmt::Debug for Core<'_> {
+    fn fmt(&self, out: &mut fmt::Formatter<'_>) -> fmt::Result {
+        out.debug_struct("Core")
+            .field("permanent", &self.memory.permanent.len())
+            .field("scratch", &self.memory.scratch.len())
+            .field("map", &self.memory.map.len())
+            .finish_non_exhaustive()
     }
 }

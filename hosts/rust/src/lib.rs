@@ -24,21 +24,61 @@
 //! # Ok::<(), scopes::Refusal>(())
 //! ```
 //!
-//! A core has no copies, and its buffers no other writer; a view ends before the next change:
+//! # What does not compile
 //!
-//! ```compile_fail,E0599
-//! fn copied<'m>(core: &scopes::Core<'m>) -> scopes::Core<'m> {
-//!     core.clone()
+//! Each pair differs in one line, and the second of it is an error. A core may move to another
+//! thread, but it has no copies, and threads do not share it (one call at a time):
+//!
+//! ```
+//! fn need<T: Send>() {}
+//! need::<scopes::Core>();
+//! ```
+//! ```compile_fail,E0277
+//! fn need<T: Clone>() {}
+//! need::<scopes::Core>();
+//! ```
+//! ```compile_fail,E0277
+//! fn need<T: Sync>() {}
+//! need::<scopes::Core>();
+//! ```
+//!
+//! Nobody makes one by hand:
+//!
+//! ```
+//! fn made<'m>(core: scopes::Core<'m>) -> scopes::Core<'m> {
+//!     core
+//! }
+//! ```
+//! ```compile_fail,E0451
+//! fn made<'m>(core: scopes::Core<'m>) -> scopes::Core<'m> {
+//!     scopes::Core { ..core }
 //! }
 //! ```
 //!
+//! Nobody else writes its buffers:
+//!
+//! ```
+//! let (mut permanent, mut scratch, mut map) = ([0; 1], [0; 1], [0; 1]);
+//! let core = scopes::Core::set_up(&mut permanent, &mut scratch, &mut map, 1, 0).unwrap();
+//! assert_eq!(core.permanent(), [0]);
+//! assert_eq!(core.scratch(), [0]);
+//! ```
 //! ```compile_fail,E0506
 //! let (mut permanent, mut scratch, mut map) = ([0; 1], [0; 1], [0; 1]);
-//! let core = scopes::Core::set_up(&mut permanent, &mut scratch, &mut map, 1, 0);
+//! let core = scopes::Core::set_up(&mut permanent, &mut scratch, &mut map, 1, 0).unwrap();
 //! permanent[0] = 1;
-//! core.unwrap();
+//! assert_eq!(core.scratch(), [0]);
 //! ```
 //!
+//! A view ends before the next change:
+//!
+//! ```
+//! fn held(core: &mut scopes::Core, thread: scopes::Thread, object: scopes::Handle) -> u64 {
+//!     let view = core.view(thread, object).unwrap();
+//!     core.read(thread, object, 0).unwrap();
+//!     view[0]
+//! }
+//! ```
 //! ```compile_fail,E0502
 //! fn held(core: &mut scopes::Core, thread: scopes::Thread, object: scopes::Handle) -> u64 {
 //!     let view = core.view(thread, object).unwrap();

@@ -1,5 +1,7 @@
 //! One thread's scope stack as a record that the host's scheduler holds.
 
+use std::fmt;
+
 use crate::names::Area;
 use crate::refusal::{value, Refusal};
 use crate::sys;
@@ -33,5 +35,12 @@ impl ScopeStack {
 impl Default for ScopeStack {
     fn default() -> ScopeStack {
         ScopeStack::empty()
+    }
+}
+
+/// The areas on it, and nothing of the record above them.
+impl fmt::Debug for ScopeStack {
+    fn fmt(&self, out: &mut fmt::Formatter<'_>) -> fmt::Result {
+        out.debug_list().entries(self.entries()).finish()
     }
 }

@@ -2,7 +2,8 @@
 //!
 //! What they ask of their caller (include/scopes.h) is kept here: a [`State`] has private tables and
 //! is made by [`set_up`] alone, it is neither copied nor cloned, and a call that changes it borrows
-//! it alone; slices are valid for their lengths, and Rust's borrows keep them from overlapping.
+//! it alone; slices are valid for their lengths, and Rust's borrows keep them from overlapping. That
+//! two calls that only read are not made at once is kept above: a core is not `Sync`.
 
 /// The three buffers, borrowed from the host.
 pub struct Memory<'m> {

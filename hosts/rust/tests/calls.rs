@@ -137,3 +137,15 @@ fn stack_of_the_scheduler() {
     assert_eq!(stack.pop(), Ok(area(63)));
     assert_eq!(stack.pop(), Ok(Area::HEAP));
 }
+
+/// What is shown of a core and of a stack for debugging is what their callers know anyway.
+#[test]
+fn debugging_shows_no_table() {
+    let mut buffers = Buffers::new();
+    let core = buffers.begin();
+    let shown = format!("{core:?}");
+    assert_eq!(shown, "Core { permanent: 32, scratch: 96, map: 2, .. }");
+    let mut stack = ScopeStack::empty();
+    stack.push(area(5)).unwrap();
+    assert_eq!(format!("{stack:?}"), "[Area(5)]");
+}

@@ -2,7 +2,6 @@
 //! description of it.
 
 use reference::calls::{Call, Op};
-use reference::memory::Memory;
 
 use crate::exports::*;
 use crate::supplied::Supplied;
@@ -13,6 +12,19 @@ pub enum Request {
     Call(Call),
     ViewStatus { thread: u64, object: u64 },
     ViewPlace { thread: u64, object: u64 },
+}
+
+impl Request {
+    /// Whether the call, accepted or not, leaves the state as it is: ops 07 to 0a and the shown part.
+    pub fn keeps_state(&self) -> bool {
+        let Request::Call(Call { op, .. }) = self else {
+            return true;
+        };
+        matches!(
+            op,
+            Op::Store { .. } | Op::Load { .. } | Op::Write { .. } | Op::Read { .. }
+        )
+    }
 }
 
 /// What a call answers: a status and a value, or a part of a store.
@@ -31,21 +43,18 @@ impl Reply {
     }
 }
 
-pub fn set_up(memory: &Memory, heap: u64, immortal: u64) -> NewState {
-    let Memory {
-        permanent,
-        scratch,
-        start_map,
-    } = memory;
-    // SAFETY: three slices with their own lengths.
+pub fn set_up(supplied: &mut Supplied, heap: u64, immortal: u64) -> NewState {
+    let (permanent, scratch) = (supplied.permanent.words_mut(), supplied.scratch.words_mut());
+    let map = supplied.map.words_mut();
+    // SAFETY: three slices with their own lengths, borrowed for writing, so that a write is seen.
     unsafe {
         scopes_set_up(
-            permanent.as_ptr(),
+            permanent.as_mut_ptr(),
             permanent.len(),
-            scratch.as_ptr(),
+            scratch.as_mut_ptr(),
             scratch.len(),
-            start_map.as_ptr(),
-            start_map.len(),
+            map.as_mut_ptr(),
+            map.len(),
             heap,
             immortal,
         )

@@ -4,7 +4,7 @@
 use reference::calls::Op;
 use reference::memory::{Lengths, Memory};
 use reference::random::Random;
-use reference::state::{LAST_GENERATION, THREADS};
+use reference::state::{LAST_GENERATION, MOST_WORDS, THREADS};
 
 use crate::calls::{Reply, Request};
 use crate::chooser::Chooser;
@@ -16,8 +16,10 @@ use crate::tally::Tally;
 pub fn run(seed: u64, count: u64, tally: &mut Tally) -> Result<(), String> {
     let mut random = Random::new(seed);
     let (heap, immortal, memory) = any_set_up(&mut random);
+    let lengths = memory.lengths();
     let (status, pair) = Pair::set_up(heap, immortal, memory)?;
     tally.add("set_up", status);
+    note_edges(heap, immortal, lengths, tally);
     tally.note(status == 1, "a list after a refused set-up");
     records::run(&mut random, 150, tally)?;
     let mut list = List {
@@ -59,17 +61,50 @@ fn any_set_up(random: &mut Random) -> (u64, u64, Memory) {
     let (heap, immortal) = (random.below(most + 1), random.below(most + 1));
     let mut lengths = Lengths::with_map(heap + immortal, random.below(2 * most + 1));
     let (mut h, mut i) = (heap, immortal);
-    if random.percent(12) {
-        match random.below(6) {
+    if random.percent(15) {
+        match random.below(9) {
             0 => lengths.permanent += 1,
             1 => lengths.start_map += 1,
-            2 => lengths = Lengths::with_map(lengths.permanent, 16_385),
-            3 => h = h.wrapping_sub(1 + random.below(3)),
-            4 => i = random.word(),
+            2 => lengths.start_map = lengths.start_map.saturating_sub(1),
+            3 => lengths = Lengths::with_map(lengths.permanent, MOST_WORDS + 1),
+            4 => (h, i, lengths) = whole_store(random, MOST_WORDS + 1, lengths.scratch),
+            5 => (h, i, lengths) = whole_store(random, MOST_WORDS, MOST_WORDS),
+            6 => h = h.wrapping_sub(1 + random.below(3)),
+            7 => i = random.word(),
             _ => (h, i) = (u64::MAX, lengths.permanent + 1),
         }
     }
     (h, i, any_contents(random, lengths))
+}
+
+/// Heap and immortal memory that fill a permanent store, beside a scratch store.
+fn whole_store(random: &mut Random, permanent: u64, scratch: u64) -> (u64, u64, Lengths) {
+    let heap = random.below(permanent + 1);
+    let lengths = Lengths::with_map(permanent, scratch);
+    (heap, permanent - heap, lengths)
+}
+
+/// Notes the set-ups in which one length stands at the edge and nothing else is wrong.
+fn note_edges(heap: u64, immortal: u64, lengths: Lengths, tally: &mut Tally) {
+    let Lengths {
+        permanent,
+        scratch,
+        start_map,
+    } = lengths;
+    if heap.checked_add(immortal) != Some(permanent) {
+        return;
+    }
+    let fitting = Lengths::with_map(permanent, scratch).start_map;
+    tally.note(start_map + 1 == fitting, "a map one word short");
+    tally.note(start_map == fitting + 1, "a map one word long");
+    if start_map == fitting {
+        let most = (permanent, scratch) == (MOST_WORDS, MOST_WORDS);
+        tally.note(most, "stores of 16,384 words");
+        let long = permanent == MOST_WORDS + 1 && scratch <= MOST_WORDS;
+        tally.note(long, "a permanent store of 16,385 words");
+        let long = permanent <= MOST_WORDS && scratch == MOST_WORDS + 1;
+        tally.note(long, "a scratch store of 16,385 words");
+    }
 }
 
 fn any_contents(random: &mut Random, lengths: Lengths) -> Memory {

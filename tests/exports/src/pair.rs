@@ -26,28 +26,29 @@ impl Pair {
     /// Set-up of both on the same words. A refused one leaves both with empty buffers. Yields its
     /// status beside them.
     pub fn set_up(heap: u64, immortal: u64, memory: Memory) -> Result<(u64, Pair), String> {
-        let given = calls::set_up(&memory, heap, immortal);
+        let mut supplied = Supplied::new(&memory);
+        let given = calls::set_up(&mut supplied, heap, immortal);
         let (answer, state) = state::set_up(heap, immortal, &memory);
-        if given.status != answer.status {
-            let (lengths, status) = (memory.lengths(), given.status);
-            return Err(format!(
-                "set-up {heap}, {immortal} on {lengths:?}: {status}, expected {}",
-                answer.status
-            ));
+        let request = format!("set-up {heap}, {immortal} on {:?}", memory.lengths());
+        let (status, expected) = (given.status, answer.status);
+        if status != expected {
+            return Err(format!("{request}: {status}, expected {expected}"));
+        }
+        if let Some(words) = supplied.difference(&memory) {
+            return Err(format!("{request}: {words}"));
         }
         let memory = if answer.is_accepted() {
             memory
         } else {
             Memory::zeroed(Default::default())
         };
-        let supplied = Supplied::new(&memory);
         let pair = Pair {
             given,
-            supplied,
+            supplied: Supplied::new(&memory),
             state,
             memory,
         };
-        Ok((answer.status, pair))
+        Ok((status, pair))
     }
 
     /// What a choice of calls may look at.
@@ -91,8 +92,9 @@ impl Pair {
         if let Some(words) = difference {
             return Err(format!("{request:x?}: {words}"));
         }
-        if given.status() != 0 && self.given != *before {
-            return Err(format!("{request:x?}: refused, but the state changed"));
+        let keeps_state = given.status() != 0 || request.keeps_state();
+        if keeps_state && self.given != *before {
+            return Err(format!("{request:x?}: {given:?}, but the state changed"));
         }
         Ok(given)
     }

@@ -26,7 +26,7 @@ const REACHABLE: [(&str, &[u64]); 15] = [
 ];
 
 /// What the lists are meant to bring about beside the statuses.
-const SITUATIONS: [&str; 7] = [
+const SITUATIONS: [&str; 12] = [
     "a part of the permanent store",
     "a part of the scratch store",
     "a part of length 0 that is not refused",
@@ -34,6 +34,11 @@ const SITUATIONS: [&str; 7] = [
     "a handle that no allocation gave is accepted",
     "a scope at the last generation",
     "32 entries on a stack record",
+    "a map one word short",
+    "a map one word long",
+    "stores of 16,384 words",
+    "a permanent store of 16,385 words",
+    "a scratch store of 16,385 words",
 ];
 
 #[derive(Default)]
