@@ -106,12 +106,12 @@ typedef struct scopes_new_state {
 } scopes_new_state;
 
 /* Where an object's data words lie: in the permanent (0) or the scratch store (1), from a word on. */
-typedef struct scopes_part {
+typedef struct scopes_view {
     uint64_t status;
     uint64_t store;
     uint64_t from;
     uint64_t len;
-} scopes_part;
+} scopes_view;
 
 /* One thread's stack as a record that the host's scheduler holds; the top is the last entry. It comes from
  * scopes_stack_empty and the pushes and pops since alone. */
@@ -226,7 +226,7 @@ scopes_answer scopes_view_status(
 
 /* Where they lie, with the same status; a refusal gives store, from and len 0. The part is the object's until the next
  * call that empties its scope. Read it; writing it is scopes_write's. */
-scopes_part scopes_view_place(
+scopes_view scopes_view_place(
     const uint64_t words[SCOPES_STATE_WORDS], const uint8_t bytes[SCOPES_STATE_BYTES],
     const uint64_t *permanent, size_t permanent_len,
     const uint64_t *scratch, size_t scratch_len,

@@ -26,7 +26,7 @@ _Static_assert(sizeof(((scopes_new_state *)0)->words) == 4384, "words of a state
 _Static_assert(sizeof(((scopes_new_state *)0)->bytes) == 3072, "bytes of a state");
 _Static_assert(sizeof(scopes_new_state) == 8 + 4384 + 3072, "what set-up gives");
 _Static_assert(sizeof(scopes_answer) == 16, "an answer");
-_Static_assert(sizeof(scopes_part) == 32, "a part");
+_Static_assert(sizeof(scopes_view) == 32, "a view");
 _Static_assert(sizeof(scopes_stack) == 40, "a stack");
 
 #define NAMED(status) case status: return #status
@@ -110,14 +110,14 @@ static void parent_left_under_child(void)
     show("meter stores curve in limits, which has no slot", scopes_store(SUPPLIED, METER, limits, 0, curve));
 }
 
-/* An object's data as a part of the store that this host lent. */
-static void show_part(const char *call, scopes_part part)
+/* An object's data as a view of the store that this host lent. */
+static void show_view(const char *call, scopes_view view)
 {
-    const uint64_t *store = part.store == 0 ? permanent : scratch;
-    show_status(call, part.status);
+    const uint64_t *store = view.store == 0 ? permanent : scratch;
+    show_status(call, view.status);
     printf("  words");
-    for (uint64_t i = 0; i < part.len; i++) {
-        printf(" %" PRIu64, store[part.from + i]);
+    for (uint64_t i = 0; i < view.len; i++) {
+        printf(" %" PRIu64, store[view.from + i]);
     }
     printf("\n");
 }
@@ -131,11 +131,11 @@ static void reference_into_emptied_sample(void)
     show("meter writes 41 into points", scopes_write(SUPPLIED, METER, points, 0, 41));
     show("meter writes 43 into points", scopes_write(SUPPLIED, METER, points, 2, 43));
     show("plotter reads points", scopes_read(SUPPLIED, PLOTTER, points, 0));
-    show_part("plotter is shown points", scopes_view_place(SUPPLIED, PLOTTER, points));
+    show_view("plotter is shown points", scopes_view_place(SUPPLIED, PLOTTER, points));
     show("plotter stores points in figure", scopes_store(SUPPLIED, PLOTTER, figure, 0, points));
     show("meter leaves sample, the last one", scopes_exit(SUPPLIED, METER));
     show("plotter reads points", scopes_read(SUPPLIED, PLOTTER, points, 0));
-    show_part("plotter is shown points", scopes_view_place(SUPPLIED, PLOTTER, points));
+    show_view("plotter is shown points", scopes_view_place(SUPPLIED, PLOTTER, points));
     show("plotter stores points in figure", scopes_store(SUPPLIED, PLOTTER, figure, 0, points));
     show("plotter loads from figure", scopes_load(SUPPLIED, PLOTTER, figure, 0));
     show("meter enters sample again", scopes_enter(SUPPLIED, METER, SAMPLE));

@@ -15,7 +15,7 @@ use Rattle.rights.specs.declared.Right.the-variants.{Enter}
 use Rattle.model.specs.declared.Area.{Area}
 use Rattle.model.specs.State.{State, Memory, areaAt, threadAt, stackAt, innermost, isMade, isScope, withThread}
 use Rattle.model.specs.Checks.{admit, hasRight}
-use Rattle.model.specs.Scopes.{lastGeneration, otherParent, worn, enterStatus}
+use Rattle.model.specs.Scopes.{lastGeneration, otherParent, exhausted, enterStatus}
 use Rattle.model.specs.Invariant.{Good}
 use Rattle.model.proofs.Accepted.{Admitted, EnterOk, enter-ok}
 use Rattle.tables.specs.Decode.{stateOf, areaOf}
@@ -108,7 +108,7 @@ module _ (s : State) (m : Memory) (t q : ℕ) where
     enter-no-area h = sym (admit-rest s m t a _ ∙ rw (le-leb 64 q h))
 
     pub enter-entry : q < 64 → entryStatus (threadAt s t .kind) (threadAt s t .len) (innermost (stackAt s t)) (areaAt s q) q ≡ enterStatus s m t q
-    unfolding enterStatus entryStatus isMade hasRight otherParent worn
+    unfolding enterStatus entryStatus isMade hasRight otherParent exhausted
     enter-entry h = sym (admit-rest s m t a _ ∙ rw (lt-leb 64 q h))
 
   -- n is what the checks answer

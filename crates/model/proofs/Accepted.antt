@@ -12,7 +12,7 @@ use Rattle.layout.specs.Header.{slotsOf, dataOf}
 use Rattle.model.specs.State.{State, Memory, areaAt, threadAt, stackAt, innermost, isMade, isOpen}
 use Rattle.model.specs.Checks.{fits, admit, headerAt, live, isObject, isReference, useStatus}
 use Rattle.model.specs.Threads.{isKind, startStatus, endStatus}
-use Rattle.model.specs.Scopes.{makeStatus, lastGeneration, otherParent, worn, enterStatus, exitStatus}
+use Rattle.model.specs.Scopes.{makeStatus, lastGeneration, otherParent, exhausted, enterStatus, exitStatus}
 use Rattle.model.specs.Objects.{currentAt, allocateStatus}
 use Rattle.model.specs.References.{mayRefer, slotStatus, referenceStatus, storeStatus}
 use Rattle.model.specs.Data.{dataStatus}
@@ -113,7 +113,7 @@ module _ (s : State) (m : Memory) (t : ℕ) where
     pub generation : 2 ≤ q → areaAt s q .count ≡ 0 → areaAt s q .generation < lastGeneration
 
   pub enter-ok : (q : ℕ) → enterStatus s m t q ≡ 0 → EnterOk q
-  unfolding enterStatus otherParent worn
+  unfolding enterStatus otherParent exhausted
   enter-ok q e =
       let a = admitted _ e in
       let b = peel _ _ _ (a .1) in

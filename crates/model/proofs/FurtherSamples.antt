@@ -16,7 +16,7 @@ use Rattle.model.specs.State.{Memory, withArea, withRow, withThread, wit
 use Rattle.model.specs.SetUp.{setUpStatus, firstState, setUpState}
 use Rattle.model.specs.Checks.{fits, admit, hasRight, live, isObject, isReference, useStatus}
 use Rattle.model.specs.Threads.{startStatus, startState, endStatus, endState}
-use Rattle.model.specs.Scopes.{makeStatus, makeState, otherParent, worn, enterStatus, enteredArea, pushed, enterState, enterValue, exitStatus, leftArea, popped, exitState, exitValue}
+use Rattle.model.specs.Scopes.{makeStatus, makeState, otherParent, exhausted, enterStatus, enteredArea, pushed, enterState, enterValue, exitStatus, leftArea, popped, exitState, exitValue}
 use Rattle.model.specs.Objects.{allocateStatus, allocateState, filled, objectWords, objectBits, allocateMemory, allocateValue}
 use Rattle.model.specs.References.{mayRefer, storeAfter, slotStatus, referenceStatus, storeStatus, loadStatus}
 use Rattle.model.specs.Data.{dataStatus, viewStatus, viewWords}
@@ -96,5 +96,5 @@ pub further : table
     ∷ (0 ∷ 2 ∷ 13 ∷ [])
     ∷ (1 ∷ 0 ∷ 8 ∷ 12 ∷ [])
     ∷ []
-unfolding supplied short calls after next used shared worn-out refused none without table run handleOf offsetOf areaOf generationOf headerOf slotsOf dataOf refuse bitAt withBit withoutBit cleared classOf rightsRows rightDigit allows rowHolds down withArea withRow withThread withTaken stackOf innermost isMade displayHolds withStore setUpStatus firstState setUpState fits admit hasRight live isObject isReference useStatus startStatus startState endStatus endState makeStatus makeState otherParent worn enterStatus enteredArea pushed enterState enterValue exitStatus leftArea popped exitState exitValue allocateStatus allocateState filled objectWords objectBits allocateMemory allocateValue mayRefer storeAfter slotStatus referenceStatus storeStatus loadStatus dataStatus viewStatus viewWords outcomeOf step begin
+unfolding supplied short calls after next used shared worn-out refused none without table run handleOf offsetOf areaOf generationOf headerOf slotsOf dataOf refuse bitAt withBit withoutBit cleared classOf rightsRows rightDigit allows rowHolds down withArea withRow withThread withTaken stackOf innermost isMade displayHolds withStore setUpStatus firstState setUpState fits admit hasRight live isObject isReference useStatus startStatus startState endStatus endState makeStatus makeState otherParent exhausted enterStatus enteredArea pushed enterState enterValue exitStatus leftArea popped exitState exitValue allocateStatus allocateState filled objectWords objectBits allocateMemory allocateValue mayRefer storeAfter slotStatus referenceStatus storeStatus loadStatus dataStatus viewStatus viewWords outcomeOf step begin
 further = refl

@@ -39,8 +39,8 @@ abbrev pub lastGeneration : ℕ
 lastGeneration = 17592186044415
 
 -- "17: scope not open, its turn 2^44 - 1". It asks for that turn or a higher one; under the invariant none is higher.
-unfoldable pub worn : State → ℕ → Bool
-worn s q = isScope q && (not (isOpen s q) && leb lastGeneration (areaAt s q .generation))
+unfoldable pub exhausted : State → ℕ → Bool
+exhausted s q = isScope q && (not (isOpen s q) && leb lastGeneration (areaAt s q .generation))
 
 -- refusals 1, 2, 6, 5, 9, 10, 17: "6: area above 63 or scope not made", "9: stack has 32 entries"
 unfoldable pub enterStatus : State → Memory → ℕ → ℕ → ℕ
@@ -50,7 +50,7 @@ enterStatus s m t q =
     (refuse (not (hasRight s t Enter q)) 5
     (refuse (leb 32 (threadAt s t .len)) 9
     (refuse (otherParent s t q) 10
-    (refuse (worn s q) 17 0)))))
+    (refuse (exhausted s q) 17 0)))))
 
 -- "An open scope may be entered only if its parent equals that innermost scope; its count rises by 1."
 abbrev pub reentered : Area → Area

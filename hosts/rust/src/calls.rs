@@ -175,14 +175,14 @@ impl<'m> Core<'m> {
     /// An object's data words where they lie. No call that changes anything can be made while they
     /// are held. Refusals 2, 13, 5.
     pub fn view(&self, thread: Thread, object: Handle) -> Result<&[u64], Refusal> {
-        let part = sys::view_place(&self.state, &self.memory, thread.number(), object.word());
-        check(part.status)?;
-        let store = if part.store == 0 {
+        let place = sys::view_place(&self.state, &self.memory, thread.number(), object.word());
+        check(place.status)?;
+        let store = if place.store == 0 {
             &self.memory.permanent
         } else {
             &self.memory.scratch
         };
-        Ok(&store[part.from as usize..][..part.len as usize])
+        Ok(&store[place.from as usize..][..place.len as usize])
     }
 
     /// Whether [`Core::view`] would be refused.

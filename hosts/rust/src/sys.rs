@@ -39,7 +39,7 @@ pub struct Answer {
 
 /// A part of the permanent (0) or the scratch store (1).
 #[repr(C)]
-pub struct Part {
+pub struct View {
     pub status: u64,
     pub store: u64,
     pub from: u64,
@@ -85,7 +85,7 @@ exported! {
     scopes_write(const const, mut mut const, thread, object, index, word) -> Answer;
     scopes_read(const const, const const const, thread, object, index) -> Answer;
     scopes_view_status(const const, const const const, thread, object) -> Answer;
-    scopes_view_place(const const, const const const, thread, object) -> Part;
+    scopes_view_place(const const, const const const, thread, object) -> View;
 }
 
 extern "C" {
@@ -143,7 +143,7 @@ safe! {
     fn write(&; &mut; thread, object, index, word) -> Answer = scopes_write(as_ptr as_ptr, as_mut_ptr as_ptr);
     fn read(&; &; thread, object, index) -> Answer = scopes_read(as_ptr as_ptr, as_ptr as_ptr);
     fn view_status(&; &; thread, object) -> Answer = scopes_view_status(as_ptr as_ptr, as_ptr as_ptr);
-    fn view_place(&; &; thread, object) -> Part = scopes_view_place(as_ptr as_ptr, as_ptr as_ptr);
+    fn view_place(&; &; thread, object) -> View = scopes_view_place(as_ptr as_ptr, as_ptr as_ptr);
 }
 
 /// The status of a set-up and its state, which is the one of empty buffers where the status is 1.

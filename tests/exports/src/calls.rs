@@ -31,14 +31,14 @@ impl Request {
 #[derive(Clone, Copy, Debug, PartialEq, Eq)]
 pub enum Reply {
     Answer(Answer),
-    Part(Part),
+    View(View),
 }
 
 impl Reply {
     pub fn status(&self) -> u64 {
         match self {
             Reply::Answer(answer) => answer.status,
-            Reply::Part(part) => part.status,
+            Reply::View(view) => view.status,
         }
     }
 }
@@ -92,7 +92,7 @@ pub fn call(state: &mut NewState, supplied: &mut Supplied, request: Request) -> 
             Reply::Answer(call!(scopes_view_status, state, supplied, thread, object))
         }
         Request::ViewPlace { thread, object } => {
-            Reply::Part(call!(scopes_view_place, state, supplied, thread, object))
+            Reply::View(call!(scopes_view_place, state, supplied, thread, object))
         }
     }
 }

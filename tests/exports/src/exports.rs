@@ -19,7 +19,7 @@ pub struct Answer {
 
 #[repr(C)]
 #[derive(Clone, Copy, Debug, PartialEq, Eq)]
-pub struct Part {
+pub struct View {
     pub status: u64,
     pub store: u64,
     pub from: u64,
@@ -65,7 +65,7 @@ exported! {
     scopes_write(const const, mut const, thread, object, index, word) -> Answer;
     scopes_read(const const, const const, thread, object, index) -> Answer;
     scopes_view_status(const const, const const, thread, object) -> Answer;
-    scopes_view_place(const const, const const, thread, object) -> Part;
+    scopes_view_place(const const, const const, thread, object) -> View;
 }
 
 extern "C" {

@@ -7,7 +7,7 @@ use reference::state::{self, State};
 
 use crate::calls::{self, Reply, Request};
 use crate::chooser::Seen;
-use crate::exports::{Answer, NewState, Part};
+use crate::exports::{Answer, NewState, View};
 use crate::supplied::Supplied;
 
 /// Where a scope's generation stands in the tables: the fourth of the eight words of its area.
@@ -131,7 +131,7 @@ fn expected(state: &mut State, memory: &mut Memory, request: Request) -> Reply {
         Request::Call(call) => state.run(memory, call),
         Request::ViewStatus { thread, object } => state.view_status_of(memory, thread, object),
         Request::ViewPlace { thread, object } => {
-            return Reply::Part(expected_part(state, memory, thread, object))
+            return Reply::View(expected_view(state, memory, thread, object))
         }
     };
     Reply::Answer(Answer {
@@ -142,7 +142,7 @@ fn expected(state: &mut State, memory: &mut Memory, request: Request) -> Reply {
 
 /// The shown part as numbers: the store, the first word, the length. The part of a refused call is
 /// empty and has no place.
-fn expected_part(state: &State, memory: &Memory, thread: u64, object: u64) -> Part {
+fn expected_view(state: &State, memory: &Memory, thread: u64, object: u64) -> View {
     let status = state.view_status_of(memory, thread, object).status;
     let shown = state.view_of(memory, thread, object);
     let accepted = status == 0;
@@ -150,7 +150,7 @@ fn expected_part(state: &State, memory: &Memory, thread: u64, object: u64) -> Pa
     let permanent = memory.permanent.len() as u64;
     let first = object.map_or(0, |object| object.first_data());
     let in_scratch = object.is_some_and(|object| state::is_scope(object.area));
-    Part {
+    View {
         status,
         store: u64::from(in_scratch),
         from: if in_scratch { first - permanent } else { first },

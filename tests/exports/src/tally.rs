@@ -54,11 +54,11 @@ impl Tally {
 
     pub fn add_reply(&mut self, request: Request, reply: Reply) {
         self.add(function_of(request), reply.status());
-        if let Reply::Part(part) = reply {
-            let accepted = part.status == 0;
-            self.note(accepted && part.store == 0, SITUATIONS[0]);
-            self.note(accepted && part.store == 1, SITUATIONS[1]);
-            self.note(accepted && part.len == 0, SITUATIONS[2]);
+        if let Reply::View(view) = reply {
+            let accepted = view.status == 0;
+            self.note(accepted && view.store == 0, SITUATIONS[0]);
+            self.note(accepted && view.store == 1, SITUATIONS[1]);
+            self.note(accepted && view.len == 0, SITUATIONS[2]);
         }
     }
 
