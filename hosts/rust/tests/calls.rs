@@ -143,8 +143,8 @@ fn stack_of_the_scheduler() {
 fn debugging_shows_no_table() {
     let mut buffers = Buffers::new();
     let core = buffers.begin();
-    let shown = format!("{core:?}");
-    assert_eq!(shown, "Core { permanent: 32, scratch: 96, map: 2, .. }");
+    let text = format!("{core:?}");
+    assert_eq!(text, "Core { permanent: 32, scratch: 96, map: 2, .. }");
     let mut stack = ScopeStack::empty();
     stack.push(area(5)).unwrap();
     assert_eq!(format!("{stack:?}"), "[Area(5)]");

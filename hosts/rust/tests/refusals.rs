@@ -34,8 +34,8 @@ fn refused_by_2_thread() {
     let mut core = buffers.begin();
     for number in [3, 15, 16, u64::MAX] {
         assert_eq!(core.exit(thread(number)), Err(Refusal::Thread));
-        let shown = core.view(thread(number), handle(1));
-        assert_eq!(shown, Err(Refusal::Thread));
+        let view = core.view(thread(number), handle(1));
+        assert_eq!(view, Err(Refusal::Thread));
     }
     let started = core.start(thread(16), Kind::RealTime);
     assert_eq!(started, Err(Refusal::Thread));

@@ -144,7 +144,7 @@ fn expected(state: &mut State, memory: &mut Memory, request: Request) -> Reply {
 /// empty and has no place.
 fn expected_view(state: &State, memory: &Memory, thread: u64, object: u64) -> View {
     let status = state.view_status_of(memory, thread, object).status;
-    let shown = state.view_of(memory, thread, object);
+    let view = state.view_of(memory, thread, object);
     let accepted = status == 0;
     let object = accepted.then(|| state.resolve(memory, object)).flatten();
     let permanent = memory.permanent.len() as u64;
@@ -154,7 +154,7 @@ fn expected_view(state: &State, memory: &Memory, thread: u64, object: u64) -> Vi
         status,
         store: u64::from(in_scratch),
         from: if in_scratch { first - permanent } else { first },
-        len: shown.len() as u64,
+        len: view.len() as u64,
     }
 }
 

@@ -166,16 +166,16 @@ fn view_is_the_data() {
     bench.write(0, heap, 1, 6);
     bench.write(0, scope, 0, 7);
     bench.write(0, scope, 2, 9);
-    assert_eq!(bench.shown(0, heap), [0, 6]);
-    assert_eq!(bench.shown(0, scope), [7, 0, 9]);
-    assert_eq!(bench.shown(0, empty), [0; 0]);
+    assert_eq!(bench.view(0, heap), [0, 6]);
+    assert_eq!(bench.view(0, scope), [7, 0, 9]);
+    assert_eq!(bench.view(0, empty), [0; 0]);
     assert_eq!(bench.view_answer(0, empty), (0, 0));
-    assert_eq!(bench.shown(0, 1), [0; 0]);
-    assert_eq!(bench.shown(1, heap), [0; 0]);
+    assert_eq!(bench.view(0, 1), [0; 0]);
+    assert_eq!(bench.view(1, heap), [0; 0]);
     let supplied = &bench.machine.supplied;
-    assert!(std::ptr::eq(bench.shown(0, scope), &supplied.scratch[3..6]));
+    assert!(std::ptr::eq(bench.view(0, scope), &supplied.scratch[3..6]));
     assert!(std::ptr::eq(
-        bench.shown(0, heap),
+        bench.view(0, heap),
         &supplied.permanent[2..4]
     ));
 }

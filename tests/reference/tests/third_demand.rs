@@ -186,11 +186,11 @@ fn sees_a_dead_handle_accepted() {
 #[test]
 fn sees_a_view_of_another_length() {
     let (machine, mut history, outer, _) = nested();
-    let shown = claims::view_is_exact(&machine, &history, 0, outer);
-    assert_eq!(shown, Ok(()));
+    let claim = claims::view_is_exact(&machine, &history, 0, outer);
+    assert_eq!(claim, Ok(()));
     history.objects[0].data = 2;
-    let shown = claims::view_is_exact(&machine, &history, 0, outer);
-    assert!(shown.is_err());
+    let claim = claims::view_is_exact(&machine, &history, 0, outer);
+    assert!(claim.is_err());
 }
 
 /// The trial compares with zeroed words, and sees a machine that goes its own way.

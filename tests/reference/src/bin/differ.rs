@@ -104,9 +104,9 @@ fn first_difference(list: &[u8], expected: &[u8], given: &[u8]) -> String {
             let number = number + 1;
             return format!(
                 "line {number} differs\n  frame    {}\n  expected {}\n  given    {}",
-                shown(line),
-                shown(wanted),
-                shown(got)
+                quoted(line),
+                quoted(wanted),
+                quoted(got)
             );
         }
         number += 1;
@@ -114,7 +114,7 @@ fn first_difference(list: &[u8], expected: &[u8], given: &[u8]) -> String {
 }
 
 /// Bytes as text, cut where they are long.
-fn shown(bytes: Option<&[u8]>) -> String {
+fn quoted(bytes: Option<&[u8]>) -> String {
     let Some(bytes) = bytes else {
         return "(nothing)".into();
     };

@@ -105,7 +105,7 @@ impl Bench {
         self.run(thread, Op::Read { object, index })
     }
 
-    pub fn shown(&self, thread: u64, object: u64) -> &[u64] {
+    pub fn view(&self, thread: u64, object: u64) -> &[u64] {
         let machine = &self.machine;
         machine.state.view_of(&machine.supplied, thread, object)
     }
