@@ -16,7 +16,7 @@ use Rattle.objects.specs.declared.find.Object.{Object}
 use Rattle.objects.specs.Found.{objectOf}
 use Rattle.objects.specs.Places.{Lies, lies}
 use Rattle.objects.specs.Stores.{Stored, stored-memory}
-use Rattle.access.specs.Statuses.{object-area, object-slots, object-words}
+use Rattle.access.specs.Statuses.{area-is, slots-is, words-is}
 
 -- word i after the header of an object lies in its store
 pub record Room (m : Memory) (o : Object) (i : ℕ) : Type 0 where
@@ -24,9 +24,6 @@ pub record Room (m : Memory) (o : Object) (i : ℕ) : Type 0 where
   pub inside : o .at + 1 + i < length (storeOf m (o .area))
 
 module _ (s : State) (m : Memory) (p : ℕ) (o : Object) (e : o ≡ objectOf s m p) where
-  area-is : o .area ≡ areaOf p
-  area-is = ap (λ (x : Object). x .area) e ∙ object-area s m p
-
   header-at : objectOf s m p .at ≡ areaAt s (areaOf p) .start + offsetOf p
   unfolding objectOf
   header-at = refl
@@ -35,10 +32,10 @@ module _ (s : State) (m : Memory) (p : ℕ) (o : Object) (e : o ≡ objectOf s m
   place-is i = omega (arith, ap (λ (x : Object). x .at) e, header-at)
 
   pub word-is : (i : ℕ) → getD (storeOf m (o .area)) (o .at + 1 + i) 0 ≡ wordAfter s m p i
-  word-is i = rw (place-is i, area-is) refl
+  word-is i = rw (place-is i, area-is s m p o e) refl
 
   pub index-is : (q : ℕ) → o .slots + q ≡ dataIndex s m p q
-  index-is q = ap (λ (n : ℕ). n + q) (ap (λ (x : Object). x .slots) e ∙ object-slots s m p)
+  index-is q = ap (λ (n : ℕ). n + q) (slots-is s m p o e)
 
   pub data-is : (q : ℕ) → getD (storeOf m (o .area)) (o .at + 1 + (o .slots + q)) 0 ≡ wordAfter s m p (dataIndex s m p q)
   data-is q = word-is (o .slots + q) ∙ ap (wordAfter s m p) (index-is q)
@@ -47,7 +44,7 @@ module _ (s : State) (m : Memory) (p : ℕ) (o : Object) (e : o ≡ objectOf s m
   pub slot-stored : (i v : ℕ) {p′ s′ : List ℕ} → Stored p′ s′ (m .permanent) (m .scratch) (o .area) (set (storeOf m (o .area)) (o .at + 1 + i) v)
       → memoryOf p′ s′ (m .map) ≡ storeAfter s m p i v
   unfolding storeAfter
-  slot-stored i v z = stored-memory z (m .map) ∙ rw (place-is i, area-is) refl
+  slot-stored i v z = stored-memory z (m .map) ∙ rw (place-is i, area-is s m p o e) refl
 
   pub data-stored : (q v : ℕ) {p′ s′ : List ℕ} → Stored p′ s′ (m .permanent) (m .scratch) (o .area) (set (storeOf m (o .area)) (o .at + 1 + (o .slots + q)) v)
       → memoryOf p′ s′ (m .map) ≡ storeAfter s m p (dataIndex s m p q) v
@@ -61,11 +58,11 @@ module _ (s : State) (m : Memory) (p : ℕ) (o : Object) (e : o ≡ objectOf s m
     pub slot-room : (q : ℕ) → SlotOk s m t p q → Room m o q
     slot-room q k =
         let l = object-lies (k .used) in
-        let h : q < o .slots = rw (ap (λ (x : Object). x .slots) e ∙ object-slots s m p) (k .slot) in
+        let h : q < o .slots = rw (slots-is s m p o e) (k .slot) in
         record { low = omega (arith, l .low, h); inside = omega (arith, l .inside, h) }
 
     pub data-room : (q : ℕ) → DataOk s m t p q → Room m o (o .slots + q)
     data-room q k =
         let l = object-lies (k .used) in
-        let h : q < o .words = rw (ap (λ (x : Object). x .words) e ∙ object-words s m p) (k .index) in
+        let h : q < o .words = rw (words-is s m p o e) (k .index) in
         record { low = omega (arith, l .low, h); inside = omega (arith, l .inside, h) }

@@ -24,21 +24,22 @@ use Rattle.access.specs.Chains.{Chain, chain-admit, chain-more}
 
 -- ---- the fields of the object that a handle leads to
 
-module _ (s : State) (m : Memory) (p : ℕ) where
-  pub object-area : objectOf s m p .area ≡ areaOf p
-  unfolding objectOf
-  object-area = refl
+module _ (s : State) (m : Memory) (p : ℕ) (o : Object) where
+  module _ (e : o ≡ objectOf s m p) where
+    pub area-is : o .area ≡ areaOf p
+    unfolding objectOf
+    area-is = ap (λ (x : Object). x .area) e
 
-  pub object-slots : objectOf s m p .slots ≡ slotsOf (headerAt s m p)
-  unfolding objectOf
-  object-slots = refl
+    pub slots-is : o .slots ≡ slotsOf (headerAt s m p)
+    unfolding objectOf
+    slots-is = ap (λ (x : Object). x .slots) e
 
-  pub object-words : objectOf s m p .words ≡ dataOf (headerAt s m p)
-  unfolding objectOf
-  object-words = refl
+    pub words-is : o .words ≡ dataOf (headerAt s m p)
+    unfolding objectOf
+    words-is = ap (λ (x : Object). x .words) e
 
-  pub found-area : (o : Object) → At o ≡ foundOf s m p → o .area ≡ areaOf p
-  found-area o e = ap (λ (x : Object). x .area) (at-live s m p o e .1) ∙ object-area
+  pub found-area : At o ≡ foundOf s m p → o .area ≡ areaOf p
+  found-area e = area-is (at-live s m p o e .1)
 
 module _ (s : State) (m : Memory) (t p : ℕ) where
   -- ---- refusals 1, 2, 13 and 5
@@ -82,13 +83,10 @@ module _ (s : State) (m : Memory) (t p : ℕ) where
     data-not-used e h = e ∙ sym (use-chain .stops (λ z. h (e ∙ z)) _)
 
     module _ (z : useStatus s m t p 0 ≡ 0) (o : Object) (e : o ≡ objectOf s m p) where
-      words-is : o .words ≡ dataOf (headerAt s m p)
-      words-is = ap (λ (x : Object). x .words) e ∙ object-words s m p
-
       pub data-past : o .words ≤ q → 14 ≡ dataStatus s m t p q
       unfolding dataStatus
-      data-past h = sym (use-chain .passes z _ ∙ rw (← words-is) (hit (leb (o .words) q) 14 0 (le-leb (o .words) q h)))
+      data-past h = sym (use-chain .passes z _ ∙ rw (← words-is s m p o e) (hit (leb (o .words) q) 14 0 (le-leb (o .words) q h)))
 
       pub data-in : q < o .words → 0 ≡ dataStatus s m t p q
       unfolding dataStatus
-      data-in h = sym (use-chain .passes z _ ∙ rw (← words-is) (skip (leb (o .words) q) 14 0 (lt-leb (o .words) q h)))
+      data-in h = sym (use-chain .passes z _ ∙ rw (← words-is s m p o e) (skip (leb (o .words) q) 14 0 (lt-leb (o .words) q h)))

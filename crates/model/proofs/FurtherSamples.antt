@@ -1,10 +1,10 @@
--- What frames cannot reach, by samples of the definitions: other lengths, the last generation, the shown part, a refused set-up. And two
+-- What frames cannot reach, by samples of the definitions: other lengths, the last generation, words that somebody else wrote, the shown part, a refused set-up. And two
 -- refusals that meet in one call.
 -- Assumes nothing.
 use Prim.Native.Nat.{ℕ}
 use mathlib.Core.List.{List, [], _∷_, map}
 use mathlib.Core.Path.{_≡_, refl}
-use lib.ListN.{replicate}
+use lib.ListN.{replicate, set}
 use Rattle.layout.specs.Choice.{refuse}
 use Rattle.layout.specs.Handle.{handleOf, offsetOf, areaOf, generationOf}
 use Rattle.layout.specs.Header.{headerOf, slotsOf, dataOf}
@@ -46,6 +46,14 @@ next w c = outcomeOf (w .state) (w .memory) c .reply .status
 used : World
 used = after (start 0 2 ∷ make 0 2 8 ∷ enter 0 2 ∷ allocate 0 1 2 ∷ write 0 1081344 0 7 ∷ [])
 
+-- the same after somebody wrote a header that gives the object one data word more, past the used words
+spoilt : World
+spoilt = record {
+  state = used .state;
+  memory = record { permanent = used .memory .permanent; scratch = set (used .memory .scratch) 0 49153; map = used .memory .map };
+  trace = used .trace;
+}
+
 -- a real-time thread's heap object of 1 slot and 1 data word, and a no-heap thread
 shared : World
 shared = after (start 0 2 ∷ allocate 0 1 1 ∷ start 1 3 ∷ [])
@@ -79,6 +87,8 @@ table =
     ∷ (outcomeOf (used .state) short (end 0) .reply .status ∷ next used (exit 5) ∷ next shared (load 1 1048576 1) ∷ next shared (write 1 1048576 1 9) ∷ next shared (read 1 1 0) ∷ [])
     -- refusal 17
     ∷ (17 ∷ next worn-out (enter 0 2) ∷ [])
+    -- refusal 13 of an object that does not end within the used words
+    ∷ (next used (read 0 1081344 0) ∷ next spoilt (read 0 1081344 0) ∷ [])
     -- the shown part: exactly the data words; refused, a part of length 0, and the status beside it
     ∷ (viewWords (used .state) (used .memory) 0 1081344)
     ∷ (viewWords (used .state) (used .memory) 5 1081344)
@@ -91,10 +101,11 @@ pub further : table
     ≡ (1 ∷ 1 ∷ 1 ∷ [])
     ∷ (1 ∷ 2 ∷ 5 ∷ 5 ∷ 13 ∷ [])
     ∷ (17 ∷ 17 ∷ [])
+    ∷ (0 ∷ 13 ∷ [])
     ∷ (7 ∷ 0 ∷ [])
     ∷ []
     ∷ (0 ∷ 2 ∷ 13 ∷ [])
     ∷ (1 ∷ 0 ∷ 8 ∷ 12 ∷ [])
     ∷ []
-unfolding supplied short calls after next used shared worn-out refused none without table run handleOf offsetOf areaOf generationOf headerOf slotsOf dataOf refuse bitAt withBit withoutBit cleared classOf rightsRows rightDigit allows rowHolds down withArea withRow withThread withTaken stackOf innermost isMade displayHolds withStore setUpStatus firstState setUpState fits admit hasRight live isObject isReference useStatus startStatus startState endStatus endState makeStatus makeState otherParent exhausted enterStatus enteredArea pushed enterState enterValue exitStatus leftArea popped exitState exitValue allocateStatus allocateState filled objectWords objectBits allocateMemory allocateValue mayRefer storeAfter slotStatus referenceStatus storeStatus loadStatus dataStatus viewStatus viewWords outcomeOf step begin
+unfolding supplied short calls after next used spoilt shared worn-out refused none without table run handleOf offsetOf areaOf generationOf headerOf slotsOf dataOf refuse bitAt withBit withoutBit cleared classOf rightsRows rightDigit allows rowHolds down withArea withRow withThread withTaken stackOf innermost isMade displayHolds withStore setUpStatus firstState setUpState fits admit hasRight live isObject isReference useStatus startStatus startState endStatus endState makeStatus makeState otherParent exhausted enterStatus enteredArea pushed enterState enterValue exitStatus leftArea popped exitState exitValue allocateStatus allocateState filled objectWords objectBits allocateMemory allocateValue mayRefer storeAfter slotStatus referenceStatus storeStatus loadStatus dataStatus viewStatus viewWords outcomeOf step begin
 further = refl

@@ -23,7 +23,7 @@ use Rattle.objects.specs.declared.find.Found.the-variants.{At, Nothing}
 use Rattle.objects.specs.Found.{objectOf, foundOf}
 use Rattle.objects.specs.Places.{at-live, nothing-live}
 use Rattle.access.specs.Chains.{Chain, chain-none, chain-more}
-use Rattle.access.specs.Statuses.{object-slots, found-area, use-chain}
+use Rattle.access.specs.Statuses.{slots-is, found-area, use-chain}
 
 -- ---- refusal 14: a slot; n is what check_object answers
 
@@ -37,16 +37,13 @@ module _ (s : State) (m : Memory) (t p q : ℕ) where
   slot-not-used e h = e ∙ sym (use-chain s m t p .stops (λ z. h (e ∙ z)) _)
 
   module _ (z : useStatus s m t p 0 ≡ 0) (o : Object) (e : o ≡ objectOf s m p) where
-    slots-is : o .slots ≡ slotsOf (headerAt s m p)
-    slots-is = ap (λ (x : Object). x .slots) e ∙ object-slots s m p
-
     pub slot-past : o .slots ≤ q → 14 ≡ slotStatus s m t p q 0
     unfolding slotStatus
-    slot-past h = sym (use-chain s m t p .passes z _ ∙ rw (← slots-is) (hit (leb (o .slots) q) 14 0 (le-leb (o .slots) q h)))
+    slot-past h = sym (use-chain s m t p .passes z _ ∙ rw (← slots-is s m p o e) (hit (leb (o .slots) q) 14 0 (le-leb (o .slots) q h)))
 
     pub slot-in : q < o .slots → 0 ≡ slotStatus s m t p q 0
     unfolding slotStatus
-    slot-in h = sym (use-chain s m t p .passes z _ ∙ rw (← slots-is) (skip (leb (o .slots) q) 14 0 (lt-leb (o .slots) q h)))
+    slot-in h = sym (use-chain s m t p .passes z _ ∙ rw (← slots-is s m p o e) (skip (leb (o .slots) q) 14 0 (lt-leb (o .slots) q h)))
 
 -- ---- refusals 15 and 5: a target or a loaded word
 

@@ -23,7 +23,7 @@ use Rattle.objects.specs.declared.find.Object.{Object}
 use Rattle.objects.specs.Found.{objectOf}
 use Rattle.objects.specs.Places.{Lies}
 use Rattle.views.specs.declared.ViewPlace.{ViewPlace}
-use Rattle.access.specs.Statuses.{object-area, object-words}
+use Rattle.access.specs.Statuses.{area-is, words-is}
 use Rattle.access.specs.Effects.{place-is, index-is, object-lies}
 use Rattle.views.specs.PlacedView.{viewStore, viewFrom, viewLength, viewPlaceOf, PlacedView}
 
@@ -43,12 +43,6 @@ module _ (s : State) (m : Memory) (t p : ℕ) where
     accepted : viewStatus s m t p ≡ 0
     accepted = sym view-is ∙ z
 
-    area-is : o .area ≡ areaOf p
-    area-is = ap (λ (x : Object). x .area) e ∙ object-area s m p
-
-    words-is : o .words ≡ dataOf (headerAt s m p)
-    words-is = ap (λ (x : Object). x .words) e ∙ object-words s m p
-
     from-is : o .at + 1 + o .slots ≡ placeAfter s p (dataIndex s m p 0)
     from-is =
         let d : o .slots + 0 ≡ o .slots = omega arith in
@@ -56,7 +50,7 @@ module _ (s : State) (m : Memory) (t p : ℕ) where
 
     pub place-accepted : record { status = 0; store = pick (isScope (o .area)) 1 0; from = o .at + 1 + o .slots; len = o .words } ≡ viewPlaceOf s m t p
     unfolding viewPlaceOf viewStore viewFrom viewLength
-    place-accepted = rw (accepted, area-is, words-is, from-is) refl
+    place-accepted = rw (accepted, area-is s m p o e, words-is s m p o e, from-is) refl
 
     pub object-in : Good s → Lies m o
     object-in g = object-lies s m p o e g t (use-ok s m t p 0 z .0)
@@ -92,7 +86,7 @@ module _ (s : State) (m : Memory) (t p : ℕ) where
       (λ k. let z : useStatus s m t p 0 ≡ 0 = view-is ∙ eqb-true (viewStatus s m t p) 0 k in
       let o : Object = objectOf s m p in
       let l = object-in z o refl g in
-      rw (k, ← from-is z o refl, ← words-is z o refl, ← area-is z o refl) (omega (arith, l .low), omega (arith, l .inside)))
+      rw (k, ← from-is z o refl, ← words-is s m p o refl, ← area-is s m p o refl) (omega (arith, l .low), omega (arith, l .inside)))
       (λ k. rw k (omega arith, omega arith))
 
   -- a place that is answered, and the words of one store and where it begins

@@ -14,7 +14,7 @@ use Rattle.model.specs.References.{mayRefer, slotStatus}
 use Rattle.objects.specs.declared.find.Object.{Object}
 use Rattle.objects.specs.Found.{objectOf}
 use Rattle.access.specs.Spots.{in-spot, refused-spot, spot-in, spot-refused}
-use Rattle.access.specs.Statuses.{object-area}
+use Rattle.access.specs.Statuses.{area-is}
 use Rattle.references.specs.Statuses.{store-no-slot, store-no-reference, store-forbidden, store-allowed}
 use Rattle.references.proofs.check_store.Statement.{statement}
 use Rattle.references.proofs.check_store.Tie as tie
@@ -36,7 +36,7 @@ slot : (c : tie.After-known-told2) → (slotStatus (state (past c)) (memory (pas
 slot c = spot-in _ (sym (c .before .o .given .1) ∙ past c .check-slot .ensures)
 
 area : (c : tie.After-known-told2) → c .before .o .given .0 .0 .area ≡ areaOf (start (past c) .args .p)
-area c = ap (λ (x : Object). x .area) (slot c .1) ∙ object-area (state (past c)) (memory (past c)) (start (past c) .args .p)
+area c = area-is (state (past c)) (memory (past c)) (start (past c) .args .p) _ (slot c .1)
 
 -- what may_refer answered
 rule : (c : tie.After-may-refer) → mayRefer (state (past (c .before .before .before))) (areaOf (start (past (c .before .before .before)) .args .p)) (areaOf (start (past (c .before .before .before)) .args .target)) ≡ c .may-refer .result
