@@ -10,8 +10,7 @@ ghost use lib.ListN.{length, set};
 ghost use Rattle.layout.specs.Choice.{pick};
 ghost use Rattle.rights.specs.declared.Right.the-variants.{Use};
 ghost use Rattle.model.specs.State.{isScope};
-ghost use Rattle.model.specs.Checks.{hasRight, useStatus};
-ghost use Rattle.model.proofs.Accepted.{Admitted};
+ghost use Rattle.model.specs.Checks.{admit, hasRight, useStatus};
 ghost use Rattle.tables.specs.Decode.{stateOf};
 ghost use Rattle.tables.specs.Contract.{memoryOf, Ready};
 ghost use Rattle.objects.specs.Found.{objectOf};
@@ -44,7 +43,7 @@ pub fn check_object(
     t: u64,
     p: u64,
 ) -> Spot
-    requires { ⌜ Ready (now words) (now bytes) × Admitted (stateOf (now words) (now bytes)) (memoryOf (now permanent) (now scratch) (now map)) t ⌝ }
+    requires { ⌜ Ready (now words) (now bytes) × (admit (stateOf (now words) (now bytes)) (memoryOf (now permanent) (now scratch) (now map)) t 0 ≡ 0) ⌝ }
     ensures { λ r. ⌜ r ≡ spotOf (objectOf (stateOf (now (words .entry)) (now (bytes .entry))) (memoryOf (now (permanent .entry)) (now (scratch .entry)) (now (map .entry))) p) (useStatus (stateOf (now (words .entry)) (now (bytes .entry))) (memoryOf (now (permanent .entry)) (now (scratch .entry)) (now (map .entry))) t p 0) ⌝ }
 {
     let Found::At(o) = objects::lookup(words, bytes, permanent, scratch, map, p) else {

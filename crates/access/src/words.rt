@@ -5,9 +5,9 @@ use layout::stack::Answer;
 use tables::Bytes;
 use tables::Words;
 ghost use mathlib.Core.Path.{_≡_};
+ghost use Rattle.model.specs.Checks.{admit};
 ghost use Rattle.model.specs.Data.{dataStatus};
 ghost use Rattle.model.specs.Calls as calls;
-ghost use Rattle.model.proofs.Accepted.{Admitted};
 ghost use Rattle.tables.specs.Decode.{stateOf};
 ghost use Rattle.tables.specs.Contract.{memoryOf, Ready, Told, Written};
 ghost use Rattle.objects.specs.Found.{objectOf};
@@ -24,7 +24,7 @@ fn check_data(
     p: u64,
     q: u64,
 ) -> Spot
-    requires { ⌜ Ready (now words) (now bytes) × Admitted (stateOf (now words) (now bytes)) (memoryOf (now permanent) (now scratch) (now map)) t ⌝ }
+    requires { ⌜ Ready (now words) (now bytes) × (admit (stateOf (now words) (now bytes)) (memoryOf (now permanent) (now scratch) (now map)) t 0 ≡ 0) ⌝ }
     ensures { λ r. ⌜ r ≡ spotOf (objectOf (stateOf (now (words .entry)) (now (bytes .entry))) (memoryOf (now (permanent .entry)) (now (scratch .entry)) (now (map .entry))) p) (dataStatus (stateOf (now (words .entry)) (now (bytes .entry))) (memoryOf (now (permanent .entry)) (now (scratch .entry)) (now (map .entry))) t p q) ⌝ }
 {
     match spot::check_object(words, bytes, permanent, scratch, map, t, p) {

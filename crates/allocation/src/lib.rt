@@ -12,7 +12,6 @@ ghost use Rattle.layout.specs.Choice.{pick};
 ghost use Rattle.model.specs.State.{isScope};
 ghost use Rattle.model.specs.Objects.{objectWords, objectBits, allocateStatus};
 ghost use Rattle.model.specs.Calls as calls;
-ghost use Rattle.model.proofs.Accepted.{AllocateOk};
 ghost use Rattle.tables.specs.Decode.{stateOf};
 ghost use Rattle.tables.specs.Contract.{memoryOf, Ready, Done, Written};
 ghost use Rattle.objects.specs.Stores.{Stored};
@@ -108,7 +107,7 @@ fn apply_allocate(
     slots: u64,
     data_words: u64,
 ) -> u64
-    requires { ⌜ Ready (now words) (now bytes) × AllocateOk (stateOf (now words) (now bytes)) (memoryOf (now permanent) (now scratch) (now map)) t slots data_words ⌝ }
+    requires { ⌜ Ready (now words) (now bytes) × (allocateStatus (stateOf (now words) (now bytes)) (memoryOf (now permanent) (now scratch) (now map)) t slots data_words ≡ 0) ⌝ }
     ensures { λ r. ⌜ Allocated r (now (words .exit)) (now (bytes .entry)) (memoryOf (now (permanent .exit)) (now (scratch .exit)) (now (map .exit))) (stateOf (now (words .entry)) (now (bytes .entry))) (memoryOf (now (permanent .entry)) (now (scratch .entry)) (now (map .entry))) t slots data_words ⌝ }
 {
     let area = threads::current_area(words, bytes, t) as u64;

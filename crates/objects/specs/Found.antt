@@ -23,6 +23,7 @@ objectOf s m h = record {
   words = dataOf (headerAt s m h);
 }
 
+-- what a look-up of a handle finds: the object, where the handle is live
 unfoldable pub foundOf : State → Memory → ℕ → Found
 foundOf s m h = pick (live s m h) (At (objectOf s m h)) Nothing
 

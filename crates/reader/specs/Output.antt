@@ -41,6 +41,7 @@ following w Bad = w
 unfoldable pub lineAnswer : World → List ℕ → List ℕ
 lineAnswer w l = answerTo w (lineOf l)
 
+-- the world after a line: a frame's call is carried out, any other line changes nothing
 unfoldable pub afterLine : World → List ℕ → World
 afterLine w l = following w (lineOf l)
 

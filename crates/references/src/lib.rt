@@ -10,10 +10,9 @@ use tables::Words;
 ghost use mathlib.Core.Path.{_≡_};
 ghost use mathlib.Core.Bool.{true};
 ghost use Prim.Native.Nat.{_<_};
-ghost use Rattle.model.specs.Checks.{fits};
+ghost use Rattle.model.specs.Checks.{fits, admit};
 ghost use Rattle.model.specs.References.{mayRefer, slotStatus, referenceStatus, storeStatus};
 ghost use Rattle.model.specs.Calls as calls;
-ghost use Rattle.model.proofs.Accepted.{Admitted};
 ghost use Rattle.tables.specs.Decode.{stateOf};
 ghost use Rattle.tables.specs.Contract.{memoryOf, Ready, Told, Written};
 ghost use Rattle.objects.specs.Found.{objectOf};
@@ -47,7 +46,7 @@ fn check_slot(
     p: u64,
     q: u64,
 ) -> Spot
-    requires { ⌜ Ready (now words) (now bytes) × Admitted (stateOf (now words) (now bytes)) (memoryOf (now permanent) (now scratch) (now map)) t ⌝ }
+    requires { ⌜ Ready (now words) (now bytes) × (admit (stateOf (now words) (now bytes)) (memoryOf (now permanent) (now scratch) (now map)) t 0 ≡ 0) ⌝ }
     ensures { λ r. ⌜ r ≡ spotOf (objectOf (stateOf (now (words .entry)) (now (bytes .entry))) (memoryOf (now (permanent .entry)) (now (scratch .entry)) (now (map .entry))) p) (slotStatus (stateOf (now (words .entry)) (now (bytes .entry))) (memoryOf (now (permanent .entry)) (now (scratch .entry)) (now (map .entry))) t p q 0) ⌝ }
 {
     match access::check_object(words, bytes, permanent, scratch, map, t, p) {
@@ -101,7 +100,7 @@ fn check_store(
     q: u64,
     target: u64,
 ) -> Spot
-    requires { ⌜ Ready (now words) (now bytes) × Admitted (stateOf (now words) (now bytes)) (memoryOf (now permanent) (now scratch) (now map)) t ⌝ }
+    requires { ⌜ Ready (now words) (now bytes) × (admit (stateOf (now words) (now bytes)) (memoryOf (now permanent) (now scratch) (now map)) t 0 ≡ 0) ⌝ }
     ensures { λ r. ⌜ r ≡ spotOf (objectOf (stateOf (now (words .entry)) (now (bytes .entry))) (memoryOf (now (permanent .entry)) (now (scratch .entry)) (now (map .entry))) p) (storeStatus (stateOf (now (words .entry)) (now (bytes .entry))) (memoryOf (now (permanent .entry)) (now (scratch .entry)) (now (map .entry))) t p q target) ⌝ }
 {
     match check_slot(words, bytes, permanent, scratch, map, t, p, q) {

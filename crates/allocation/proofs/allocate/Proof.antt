@@ -4,7 +4,6 @@ use borrow.Author.Needs.{needs}
 use denote.Ref.{now}
 use Rattle.model.specs.State.{State, Memory}
 use Rattle.model.specs.Calls as calls
-use Rattle.model.proofs.Accepted.{allocate-ok}
 use Rattle.tables.specs.Decode.{stateOf}
 use Rattle.tables.specs.Contract.{memoryOf}
 use Rattle.threads.specs.Outcomes.{done-refused, done-accepted, written-refused, written-accepted}
@@ -47,7 +46,7 @@ apply-allocate-requires : tie.Need-apply-allocate-requires
 apply-allocate-requires c κs =
     let d = c .before .before .before .before .before in
     let i = start d .args in
-    (start d .pre, allocate-ok (state d) (memory d) (i .t) (i .slots) (i .data-words) (sym (d .check-allocate .ensures) ∙ c .before .before .before .before .if1 .left))
+    (start d .pre, sym (d .check-allocate .ensures) ∙ c .before .before .before .before .if1 .left)
 
 same-length-4 : tie.Need-same-length-4
 same-length-4 c = search needs

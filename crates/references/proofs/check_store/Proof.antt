@@ -3,6 +3,7 @@ use mathlib.Core.Path.{_≡_, sym, ap, _∙_}
 use borrow.Author.Needs.{needs}
 use denote.Ref.{now}
 use Rattle.model.specs.State.{State, Memory}
+use Rattle.model.proofs.Accepted.{Admitted, admitted}
 use Rattle.tables.specs.Decode.{stateOf}
 use Rattle.tables.specs.Contract.{memoryOf}
 use native.Mathlib.Omega.{arith}
@@ -27,6 +28,9 @@ state c = stateOf (now (start c .args .words)) (now (start c .args .bytes))
 
 abbrev memory : tie.After-check-slot → Memory
 memory c = memoryOf (now (start c .args .permanent)) (now (start c .args .scratch)) (now (start c .args .map))
+
+called : (c : tie.After-check-slot) → Admitted (state c) (memory c) (start c .args .t)
+called c = admitted (state c) (memory c) (start c .args .t) 0 (start c .pre .1) .0
 
 -- what check_slot answered: an object
 abbrev past : tie.After-known-told2 → tie.After-check-slot
@@ -54,7 +58,7 @@ enum-known-o : tie.Need-enum-known-o
 enum-known-o c = search needs
 
 check-reference-requires : tie.Need-check-reference-requires
-check-reference-requires c κs = (start (past c) .pre .0, start (past c) .pre .1 .thread, start (past c) .pre .1 .supplied)
+check-reference-requires c κs = (start (past c) .pre .0, called (past c) .thread, called (past c) .supplied)
 
 area-requires : tie.Need-area-requires
 area-requires c κs = search needs

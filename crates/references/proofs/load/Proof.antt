@@ -71,7 +71,7 @@ returns c =
     told-refused _ _ (calls.load _ _ _) e h
 
 check-slot-requires : tie.Need-check-slot-requires
-check-slot-requires c κs = (start c .pre, called c)
+check-slot-requires c κs = (start c .pre, sym (c .before .check-caller .ensures) ∙ c .if1 .left)
 
 enum-known-status : tie.Need-enum-known-status
 enum-known-status c = search needs

@@ -1,24 +1,14 @@
 -- `check_view` meets its contract: refused by the caller, or what check_object answers.
+use mathlib.Core.Path.{sym, _∙_}
 use borrow.Author.Needs.{needs}
-use denote.Ref.{now}
-use Rattle.model.specs.State.{State, Memory}
-use Rattle.tables.specs.Decode.{stateOf}
-use Rattle.tables.specs.Contract.{memoryOf}
-use Rattle.threads.specs.Outcomes.{caller-admitted}
 use Rattle.access.specs.Spots.{refused-spot}
 use Rattle.access.specs.Statuses.{use-not-called}
 use Rattle.views.proofs.check_view.Statement.{statement}
 use Rattle.views.proofs.check_view.Tie as tie
 
--- past refusals 1 and 2: the entry, the state and the memory
+-- past refusals 1 and 2: the entry
 abbrev start : tie.Else1 → tie.Start
 start c = c .before .before .before .before .before
-
-abbrev state : tie.Else1 → State
-state c = stateOf (now (start c .args .words)) (now (start c .args .bytes))
-
-abbrev memory : tie.Else1 → Memory
-memory c = memoryOf (now (start c .args .permanent)) (now (start c .args .scratch)) (now (start c .args .map))
 
 check-caller-requires : tie.Need-check-caller-requires
 check-caller-requires c κs = search needs
@@ -27,7 +17,7 @@ returns : tie.Need-returns
 returns c = refused-spot _ (c .if1 .taken) (use-not-called _ _ _ _ (c .before .check-caller .ensures) (c .if1 .taken))
 
 check-object-requires : tie.Need-check-object-requires
-check-object-requires c κs = (start c .pre, caller-admitted (state c) (memory c) (start c .args .t) (c .before .check-caller .ensures) (c .if1 .left))
+check-object-requires c κs = (start c .pre, sym (c .before .check-caller .ensures) ∙ c .if1 .left)
 
 returns-2 : tie.Need-returns-2
 returns-2 c = c .check-object .ensures

@@ -5,12 +5,13 @@ use native.Mathlib.Omega.{arith}
 use borrow.Author.Needs.{needs}
 use denote.Ref.{now}
 use Rattle.model.specs.State.{State, Memory}
+use Rattle.model.specs.Checks.{admit}
 use Rattle.model.specs.Data.{dataStatus}
 use Rattle.model.specs.Calls as calls
-use Rattle.model.proofs.Accepted.{Admitted, data-ok}
+use Rattle.model.proofs.Accepted.{data-ok}
 use Rattle.tables.specs.Decode.{stateOf}
 use Rattle.tables.specs.Contract.{memoryOf}
-use Rattle.threads.specs.Outcomes.{caller-admitted, told-refused, told-accepted, written-refused, written-accepted}
+use Rattle.threads.specs.Outcomes.{told-refused, told-accepted, written-refused, written-accepted}
 use Rattle.objects.specs.Found.{objectOf}
 use Rattle.access.specs.Spots.{spot-in, spot-refused}
 use Rattle.access.specs.Statuses.{use-not-called, data-not-used}
@@ -31,8 +32,8 @@ memory c = memoryOf (now (start c .args .permanent)) (now (start c .args .scratc
 abbrev call : tie.Else1 → calls.Call
 call c = calls.write (start c .args .t) (start c .args .p) (start c .args .q) (start c .args .word)
 
-called : (c : tie.Else1) → Admitted (state c) (memory c) (start c .args .t)
-called c = caller-admitted (state c) (memory c) (start c .args .t) (c .before .check-caller .ensures) (c .if1 .left)
+called : (c : tie.Else1) → admit (state c) (memory c) (start c .args .t) 0 ≡ 0
+called c = sym (c .before .check-caller .ensures) ∙ c .if1 .left
 
 -- what check_data answered: an object, which has the word
 abbrev answer : tie.After-known-told2 → tie.After-check-data
