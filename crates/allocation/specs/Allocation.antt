@@ -22,7 +22,8 @@ use Rattle.tables.specs.Decode.{stateOf, putArea, Holds}
 use Rattle.tables.specs.Laws.{state-area}
 use Rattle.tables.specs.Contract.{Ready, memoryOf}
 use Rattle.threads.specs.Outcomes.{caller-refused, admit-rest}
-use Rattle.objects.specs.Places.{Within, within, supplied}
+use Rattle.model.proofs.PlacedWords.{supplied-lengths}
+use Rattle.objects.specs.Places.{Within, within}
 use Rattle.objects.specs.Stores.{Stored, stored-memory}
 use Rattle.model.proofs.Bounds.{current-area}
 
@@ -94,18 +95,18 @@ module _ (w b : List ℕ) (m : Memory) (t slots words : ℕ) (r : Ready w b) (k 
     words-in = omega (arith, room, in-area .words, start-is, size-is)
 
     pub bit-sum : length (m .permanent) + (x .start + x .used) < 65536
-    bit-sum = omega (arith, words-low, in-area .first, supplied (stateOf w b) m (k .called .supplied) .permanent)
+    bit-sum = omega (arith, words-low, in-area .first, supplied-lengths (stateOf w b) m (k .called .supplied) .permanent)
 
     module _ (i : ℕ) (ei : i ≡ pick (isScope a) (length (m .permanent)) 0 + (x .start + x .used)) where
       first-is : i ≡ pick (isScope a) (stateOf w b .lengths .permanent) 0 + (x .start + x .used)
-      first-is = ei ∙ rw (supplied (stateOf w b) m (k .called .supplied) .permanent) refl
+      first-is = ei ∙ rw (supplied-lengths (stateOf w b) m (k .called .supplied) .permanent) refl
 
       pub bits-in : i + 1 + (slots + words) ≤ 64 * length (m .map)
       bits-in = omega (arith, first-is, room, in-area .bits, start-is, size-is)
 
       pub bits-low : i + 1 + (slots + words) ≤ 32768
       bits-low = cases (leb 2 a)
-          (λ e. omega (arith, (rw e at ei), words-low, in-area .first, supplied (stateOf w b) m (k .called .supplied) .permanent))
+          (λ e. omega (arith, (rw e at ei), words-low, in-area .first, supplied-lengths (stateOf w b) m (k .called .supplied) .permanent))
           (λ e. omega (arith, (rw e at ei), words-low))
 
       index-is : i ≡ bitIndex (stateOf w b) a (areaAt (stateOf w b) a .used)

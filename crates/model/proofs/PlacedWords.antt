@@ -20,7 +20,8 @@ lengthFor s a = pick (isScope a) (s .lengths .scratch) (s .lengths .permanent)
 -- ---- inside
 
 module _ (s : State) (g : Placed s) where
-  low-inside : (a : ℕ) → a < 2 → areaAt s a .start + areaAt s a .size ≤ s .lengths .permanent
+  -- heap and immortal lie in the permanent store
+  pub low-inside : (a : ℕ) → a < 2 → areaAt s a .start + areaAt s a .size ≤ s .lengths .permanent
   low-inside zero h = omega (arith, g .heap, g .whole)
   low-inside (suc zero) h = omega (arith, g .immortal, g .whole)
   low-inside (suc (suc a)) h = absurd (omega arith)

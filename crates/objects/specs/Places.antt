@@ -1,6 +1,6 @@
 -- Where the words of an area lie in the lent memory, and what a live handle has passed.
 -- Assumes nothing.
-use Prim.Native.Nat.{ℕ, zero, suc, _+_, _*_, _≤_, _<_}
+use Prim.Native.Nat.{ℕ, suc, _+_, _*_, _≤_, _<_}
 use mathlib.Core.Bool.{true, false, _||_}
 use mathlib.Core.Path.{_≡_, refl, sym, _∙_}
 use native.Mathlib.Omega.{arith}
@@ -15,35 +15,13 @@ use Rattle.bitmap.specs.Bitmap.{bitAt}
 use Rattle.model.specs.State.{State, Memory, areaAt, isScope, isOpen, storeOf, bitIndex}
 use Rattle.model.specs.Checks.{fits, headerAt, live, isObject, isReference}
 use Rattle.model.specs.Invariant.{Good}
+use Rattle.model.proofs.PlacedWords.{low-inside, SuppliedLengths, supplied-lengths}
 use Rattle.objects.specs.declared.find.Object.{Object}
 use Rattle.objects.specs.declared.find.Found.{Found}
 use Rattle.objects.specs.declared.find.Found.the-variants.{At, Nothing}
 use Rattle.objects.specs.Found.{objectOf, foundOf, Numbered}
 
 -- ---- the words of an area
-
--- the lent buffers have the lengths of set-up
-pub record Supplied (s : State) (m : Memory) : Type 0 where
-  pub permanent : length (m .permanent) ≡ s .lengths .permanent
-  pub scratch : length (m .scratch) ≡ s .lengths .scratch
-  pub map : length (m .map) ≡ s .lengths .map
-
-pub supplied : (s : State) (m : Memory) → fits s m ≡ true → Supplied s m
-unfolding fits
-supplied s m f =
-    let a = and-true (eqb (length (m .permanent)) (s .lengths .permanent)) _ f in
-    let b = and-true (eqb (length (m .scratch)) (s .lengths .scratch)) _ (a .1) in
-    record {
-      permanent = eqb-true (length (m .permanent)) (s .lengths .permanent) (a .0);
-      scratch = eqb-true (length (m .scratch)) (s .lengths .scratch) (b .0);
-      map = eqb-true (length (m .map)) (s .lengths .map) (b .1);
-    }
-
--- heap and immortal lie in the permanent store
-standing-in : (s : State) → Good s → (a : ℕ) → a < 2 → areaAt s a .start + areaAt s a .size ≤ s .lengths .permanent
-standing-in s g zero k = omega (arith, g .placed .heap, g .placed .whole)
-standing-in s g (suc zero) k = omega (arith, g .placed .immortal, g .placed .whole)
-standing-in s g (suc (suc a)) k = absurd (omega arith)
 
 -- where the words of area a lie: in its store, and in the map from a bit on
 pub record Within (s : State) (m : Memory) (a : ℕ) : Type 0 where
@@ -63,7 +41,7 @@ within s m g f a k =
       first = p .permanent;
       bits = rw e (omega (arith, b, p .taken, p .map, l .map));
     })
-    (λ e. let b = standing-in s g a (leb-false 2 a e) in record {
+    (λ e. let b = low-inside s (g .placed) a (leb-false 2 a e) in record {
       used = g .placed .used a k;
       words = rw e (omega (arith, b, l .permanent));
       low = omega (arith, b, p .permanent);
@@ -71,8 +49,8 @@ within s m g f a k =
       bits = rw e (omega (arith, b, p .map, l .map));
     })
   where
-    l : Supplied s m
-    l = supplied s m f
+    l : SuppliedLengths s m f
+    l = supplied-lengths s m f
 
     p : Rattle.model.specs.Invariant.Placed s
     p = g .placed

@@ -21,7 +21,8 @@ use Rattle.tables.specs.Decode.{stateOf}
 use Rattle.tables.specs.Contract.{Ready}
 use Rattle.objects.specs.declared.find.Found.the-variants.{At, Nothing}
 use Rattle.objects.specs.Found.{objectOf, foundOf, endsOf}
-use Rattle.objects.specs.Places.{supplied, Within, within, found-at, found-nothing}
+use Rattle.model.proofs.PlacedWords.{supplied-lengths}
+use Rattle.objects.specs.Places.{Within, within, found-at, found-nothing}
 
 -- ---- the last step
 
@@ -79,7 +80,7 @@ module _ (w b : List ℕ) (m : Memory) (h a o : ℕ) (x : Area) (d : Read w b m 
     word-low = omega (arith, in-area .used, in-area .low, ap (λ (y : Area). y .start) here, ap (λ (y : Area). y .used) here)
 
     pub bit-low : length (m .permanent) + (x .start + o) < 65536
-    bit-low = omega (arith, word-low, in-area .first, supplied (stateOf w b) m (d .fitting) .permanent)
+    bit-low = omega (arith, word-low, in-area .first, supplied-lengths (stateOf w b) m (d .fitting) .permanent)
 
     pub word-in : x .start + o < length (storeOf m a)
     word-in = rw (d .area-is)
@@ -87,7 +88,7 @@ module _ (w b : List ℕ) (m : Memory) (h a o : ℕ) (x : Area) (d : Read w b m 
 
     module _ (i : ℕ) (e : i ≡ pick (isScope a) (length (m .permanent)) 0 + (x .start + o)) where
       index-is : i ≡ bitIndex (stateOf w b) (areaOf h) (offsetOf h)
-      index-is = e ∙ rw (d .area-is, d .offset-is, supplied (stateOf w b) m (d .fitting) .permanent, ap (λ (y : Area). y .start) here) refl
+      index-is = e ∙ rw (d .area-is, d .offset-is, supplied-lengths (stateOf w b) m (d .fitting) .permanent, ap (λ (y : Area). y .start) here) refl
 
       pub bit-in : i / 64 < length (m .map)
       bit-in = omega (arith, index-is, in-area .bits, in-area .used, d .offset-is, k, ap (λ (y : Area). y .used) here)
