@@ -30,3 +30,4 @@ pub mod MemoryClaims
 pub mod Outcomes
 pub mod Traces
 pub mod Theorem
+pub mod Reached

@@ -128,6 +128,12 @@ gone-line : (b : History) (l : Line) (x : ℕ) → Among x (b .gone) → Among x
 unfolding historyLine
 gone-line b l x i = cases (eqb (l .reply .status) 0) (λ e. rw e (gone-step b (l .call) (l .reply .value) x i)) (λ e. rw e i)
 
+-- with any lines more
+pub gone-onto : (ks ls : List Line) (x : ℕ) → Among x (historyOf ls .gone) → Among x (historyOf (ks ++ ls) .gone)
+unfolding historyOf
+gone-onto [] ls x i = i
+gone-onto (k ∷ ks) ls x i = gone-line (historyOf (ks ++ ls)) k x (gone-onto ks ls x i)
+
 pub gone-run : (w : World) (es : List Element) (x : ℕ) → Among x (historyOf (w .trace) .gone) → Among x (historyOf (run w es .trace) .gone)
 unfolding run
 gone-run w [] x i = i

@@ -3,9 +3,10 @@
 -- Assumes nothing.
 use Prim.Native.Nat.{ℕ}
 use mathlib.Core.List.{List, [], _∷_}
+use mathlib.Core.Path.{_≡_}
 use Rattle.layout.specs.Choice.{pick}
 use Rattle.model.specs.State.{State, Memory}
-use Rattle.model.specs.SetUp.{lengthsOf, firstState}
+use Rattle.model.specs.SetUp.{lengthsOf, setUpStatus, firstState}
 use Rattle.model.specs.Checks.{fits}
 use Rattle.model.specs.Calls.{Call, Reply, Outcome, outcomeOf}
 
@@ -53,3 +54,12 @@ run w (e ∷ es) = run (step w e) es
 -- "from an accepted set-up", with any contents of the lent words; "Set-up writes no word."
 unfoldable pub begin : ℕ → ℕ → Memory → World
 begin h i m = record { state = firstState h i (lengthsOf m); memory = m; trace = [] }
+
+-- a world that a list of calls leads to from an accepted set-up
+pub record Reached (w : World) : Type 0 where
+  pub heap : ℕ
+  pub immortal : ℕ
+  pub memory : Memory
+  pub accepted : setUpStatus heap immortal (lengthsOf memory) ≡ 0
+  pub elements : List Element
+  pub run-is : w ≡ run (begin heap immortal memory) elements

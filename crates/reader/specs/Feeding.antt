@@ -94,12 +94,12 @@ fed-chunks [] w l = refl
 fed-chunks (c ∷ chunks) w l =
     ap (after (fed w l c .output)) (fed-chunks chunks (fed w l c .world) (fed w l c .line)) ∙ sym (fed-append c (joined chunks) w l)
 
-lines-end : (l : List ℕ) (b : ℕ) (input : List ℕ) → eqb b 10 ≡ true → linesOf l (b ∷ input) ≡ l ∷ linesOf [] input
+pub lines-end : (l : List ℕ) (b : ℕ) (input : List ℕ) → eqb b 10 ≡ true → linesOf l (b ∷ input) ≡ l ∷ linesOf [] input
 unfolding linesOf
 lines-end [] b input e = pick-true (eqb b 10) ([] ∷ linesOf [] input) (linesOf (b ∷ []) input) e
 lines-end (c ∷ l) b input e = pick-true (eqb b 10) ((c ∷ l) ∷ linesOf [] input) (linesOf (c ∷ (l ++ (b ∷ []))) input) e
 
-lines-other : (l : List ℕ) (b : ℕ) (input : List ℕ) → eqb b 10 ≡ false → linesOf l (b ∷ input) ≡ linesOf (l ++ (b ∷ [])) input
+pub lines-other : (l : List ℕ) (b : ℕ) (input : List ℕ) → eqb b 10 ≡ false → linesOf l (b ∷ input) ≡ linesOf (l ++ (b ∷ [])) input
 unfolding linesOf
 lines-other [] b input e = pick-false (eqb b 10) ([] ∷ linesOf [] input) (linesOf (b ∷ []) input) e
 lines-other (c ∷ l) b input e = pick-false (eqb b 10) ((c ∷ l) ∷ linesOf [] input) (linesOf (c ∷ (l ++ (b ∷ []))) input) e

@@ -42,7 +42,7 @@ pub record Called (k n : Core) (f : Fields) (a : Answer) : Type 0 where
   pub steps : (w : World) → Stands k w → Stands n (step w (record { call = callOf f; supplied = kept }))
 
 -- a line is answered
-pub record Answered (k n : Core) (line : List ℕ) (len : ℕ) (a : Answer) : Type 0 where
+pub record LineAnswered (k n : Core) (line : List ℕ) (len : ℕ) (a : Answer) : Type 0 where
   pub ready : Ready (n .words) (n .bytes)
   pub answer-is : (w : World) (l : List ℕ) → Stands k w → Holds line len l → answerOf (a .status) (a .value) ≡ lineAnswer w l
   pub steps : (w : World) (l : List ℕ) → Stands k w → Holds line len l → Stands n (afterLine w l)

@@ -26,7 +26,7 @@ use Rattle.digits.specs.AnswerLaws.{length-answer, put-nothing}
 use Rattle.lines.specs.Lines.{Holds, lineOf}
 use Rattle.lines.specs.LineLaws.{holds-none}
 use Rattle.reader.specs.Feeding.{finished, finished-none, finished-rest, fed-none, fed-end, fed-other}
-use Rattle.reader.specs.Held.{Core, core, Stands, Called, Answered, Ended, Held, held, Leaves, Feeds, Finishes, feeds-append}
+use Rattle.reader.specs.Held.{Core, core, Stands, Called, LineAnswered, Ended, Held, held, Leaves, Feeds, Finishes, feeds-append}
 
 -- ---- a line answered
 
@@ -41,7 +41,7 @@ length-line w l = length-to w (lineOf l)
 
 -- any other line gives 18 and changes nothing
 pub answered-bad : (k : Core) (line : List ℕ) (len : ℕ) (r : Line) → Ready (k .words) (k .bytes) → r ≡ Bad
-    → ((l : List ℕ) → Holds line len l → r ≡ lineOf l) → Answered k k line len (record { status = 18; value = 0 })
+    → ((l : List ℕ) → Holds line len l → r ≡ lineOf l) → LineAnswered k k line len (record { status = 18; value = 0 })
 unfolding lineAnswer afterLine
 answered-bad k line len r y e m = record {
   ready = y;
@@ -51,7 +51,7 @@ answered-bad k line len r y e m = record {
 
 -- a frame's call is carried out
 pub answered-frame : (k n : Core) (line : List ℕ) (len : ℕ) (r : Line) (f : Fields) (a : Answer) → r ≡ Frame f
-    → ((l : List ℕ) → Holds line len l → r ≡ lineOf l) → Called k n f a → Answered k n line len a
+    → ((l : List ℕ) → Holds line len l → r ≡ lineOf l) → Called k n f a → LineAnswered k n line len a
 unfolding lineAnswer afterLine
 answered-frame k n line len r f a e m c = record {
   ready = c .ready;
@@ -61,7 +61,7 @@ answered-frame k n line len r f a e m c = record {
 
 -- the answer is written
 pub ended : (k n : Core) (line : List ℕ) (len : ℕ) (a : Answer) (out : List ℕ) (at : ℕ) (written : List ℕ)
-    → Answered k n line len a → written ≡ put out at (answerOf (a .status) (a .value)) → Ended k n line len out at written
+    → LineAnswered k n line len a → written ≡ put out at (answerOf (a .status) (a .value)) → Ended k n line len out at written
 ended k n line len a out at written d e = record {
   ready = d .ready;
   output-is = λ w l s h. e ∙ ap (put out at) (d .answer-is w l s h);

@@ -7,9 +7,10 @@ use borrow.Author.Tests.{ne-eqb}
 use Rattle.layout.specs.Choice.{pick, cases}
 use Rattle.layout.specs.declared.stack.Answer.{Answer}
 use Rattle.model.specs.State.{State, Memory}
-use Rattle.model.specs.Calls.{outcomeOf}
+use Rattle.model.specs.Calls.{Reply, outcomeOf}
 use Rattle.model.specs.Run.{World}
-use Rattle.tables.specs.Contract.{memoryOf}
+use Rattle.tables.specs.Contract.{memoryOf, plain, Answered}
+use Rattle.tables.specs.AnsweredLaws.{step-kept}
 use Rattle.tables.specs.Decode.{stateOf}
 use Rattle.scopes.specs.declared.Op.{Op}
 use Rattle.scopes.specs.declared.Op.the-variants.{Start, End, Make, Enter, Exit, Allocate, Store, Load, Write, Read}
@@ -61,16 +62,20 @@ stood k w s = rw (s .state, s .memory) refl
 
 -- what the core promises of a call of any op is what the reader asks of the call of a frame
 pub called : (k n : Core) (f : Fields) (o : Op) (a : Answer) → o ≡ opOf (f .op)
-    → step.Carried (k .words) (k .bytes) (k .permanent) (k .scratch) (k .map) (n .words) (n .bytes) (n .permanent) (n .scratch) (n .map)
-    (step.callOf o (f .thread) (f .p) (f .q) (f .r)) (a .status) (a .value)
+    → Answered (k .words) (k .bytes) (memoryOf (k .permanent) (k .scratch) (k .map)) (step.callOf o (f .thread) (f .p) (f .q) (f .r))
+    (plain (a .status) (a .value)) (n .words) (n .bytes) (memoryOf (n .permanent) (n .scratch) (n .map))
     → Called k n f a
 called k n f o a e c = record {
-  ready = d .done .ready;
-  status-is = λ w s. d .done .status-is ∙ ap₂ (λ (x : State) (y : Memory). outcomeOf x y (callOf f) .reply .status) (s .state) (s .memory);
-  value-is = λ w s. d .done .value-is ∙ ap₂ (λ (x : State) (y : Memory). outcomeOf x y (callOf f) .reply .value) (s .state) (s .memory);
+  ready = d .ready;
+  status-is = λ w s.
+      ap (λ (x : Reply). x .status) (d .reply-is) ∙ ap₂ (λ (x : State) (y : Memory). outcomeOf x y (callOf f) .reply .status) (s .state) (s .memory);
+  value-is = λ w s.
+      ap (λ (x : Reply). x .value) (d .reply-is) ∙ ap₂ (λ (x : State) (y : Memory). outcomeOf x y (callOf f) .reply .value) (s .state) (s .memory);
   steps = λ w s.
-      rw (stood k w s, d .steps (w .trace)) (record { state = refl; memory = refl });
+      rw (stood k w s, step-kept (k .words) (k .bytes) (n .words) (n .bytes) (w .trace) (callOf f) (plain (a .status) (a .value)) _ _ d)
+      (record { state = refl; memory = refl });
 }
   where
-    d : step.Carried (k .words) (k .bytes) (k .permanent) (k .scratch) (k .map) (n .words) (n .bytes) (n .permanent) (n .scratch) (n .map) (callOf f) (a .status) (a .value)
+    d : Answered (k .words) (k .bytes) (memoryOf (k .permanent) (k .scratch) (k .map)) (callOf f)
+        (plain (a .status) (a .value)) (n .words) (n .bytes) (memoryOf (n .permanent) (n .scratch) (n .map))
     d = rw (e, call-is f) at c

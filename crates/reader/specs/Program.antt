@@ -39,7 +39,7 @@ pub record After (k : Core) (line : List ℕ) (len : ℕ) (written : List ℕ) (
   pub stands : Stands k (f .world)
   pub holds : Holds line len (f .line)
 
-fed-after : {k k₁ : Core} {line line₁ : List ℕ} {len len₁ : ℕ} {chunks : List (List ℕ)} {written : List ℕ} (w : World) (l : List ℕ)
+pub fed-after : {k k₁ : Core} {line line₁ : List ℕ} {len len₁ : ℕ} {chunks : List (List ℕ)} {written : List ℕ} (w : World) (l : List ℕ)
     → Fed k line len chunks written k₁ line₁ len₁ → Stands k w → Holds line len l → After k₁ line₁ len₁ written (fedAll w l chunks)
 unfolding fedAll
 fed-after w l none s h = record { written-is = refl; stands = s; holds = h }

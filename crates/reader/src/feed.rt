@@ -13,7 +13,7 @@ ghost use Prim.Native.Nat.{_+_, _*_, _≤_};
 ghost use lib.ListN.{length};
 ghost use Rattle.tables.specs.Contract.{Ready};
 ghost use Rattle.reader.specs.Ops.{opOf};
-ghost use Rattle.reader.specs.Held.{core, held, Called, Answered, Ended, Feeds, Finishes};
+ghost use Rattle.reader.specs.Held.{core, held, Called, LineAnswered, Ended, Feeds, Finishes};
 
 // How many bytes the line so far has (41 for every longer line), and how many were written.
 pub struct Fed {
@@ -76,7 +76,7 @@ fn answer_line(
     len: usize,
 ) -> Answer
     requires { ⌜ (Ready (now words) (now bytes)) × (length (now line) ≡ 40) ⌝ }
-    ensures { λ r. ⌜ Answered (core (now (words .entry)) (now (bytes .entry)) (now (permanent .entry)) (now (scratch .entry)) (now (map .entry))) (core (now (words .exit)) (now (bytes .exit)) (now (permanent .exit)) (now (scratch .exit)) (now (map .exit))) (now (line .entry)) len r ⌝ }
+    ensures { λ r. ⌜ LineAnswered (core (now (words .entry)) (now (bytes .entry)) (now (permanent .entry)) (now (scratch .entry)) (now (map .entry))) (core (now (words .exit)) (now (bytes .exit)) (now (permanent .exit)) (now (scratch .exit)) (now (map .exit))) (now (line .entry)) len r ⌝ }
 {
     let Line::Frame(f) = lines::frame::parse_line(line, len) else {
         return Answer {

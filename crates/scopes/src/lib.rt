@@ -2,8 +2,8 @@
 use layout::stack::Answer;
 use tables::Bytes;
 use tables::Words;
-ghost use Rattle.tables.specs.Contract.{Ready};
-ghost use Rattle.scopes.specs.Step.{callOf, Carried};
+ghost use Rattle.tables.specs.Contract.{Ready, Answers};
+ghost use Rattle.scopes.specs.Step.{callOf};
 
 // The ops, 01 to 0a.
 pub enum Op {
@@ -19,7 +19,7 @@ pub enum Op {
     Read,
 }
 
-// A step of the machine: the answer, the tables and the buffers are those of the definition.
+// The answer, the tables and the buffers are those of the call's definition.
 pub fn carry_out(
     words: &mut Words,
     bytes: &mut Bytes,
@@ -33,7 +33,7 @@ pub fn carry_out(
     r: u64,
 ) -> Answer
     requires { ⌜ Ready (now words) (now bytes) ⌝ }
-    ensures { λ a. ⌜ Carried (now (words .entry)) (now (bytes .entry)) (now (permanent .entry)) (now (scratch .entry)) (now (map .entry)) (now (words .exit)) (now (bytes .exit)) (now (permanent .exit)) (now (scratch .exit)) (now (map .exit)) (callOf op t p q r) (a .status) (a .value) ⌝ }
+    ensures { λ a. ⌜ Answers a words bytes permanent scratch map (callOf op t p q r) ⌝ }
 {
     match op {
         Op::Start => threads::start(words, bytes, permanent, scratch, map, t, p),

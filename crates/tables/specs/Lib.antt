@@ -3,4 +3,5 @@ pub mod Cut
 pub mod Decode
 pub mod Laws
 pub mod Contract
+pub mod AnsweredLaws
 pub mod Blank

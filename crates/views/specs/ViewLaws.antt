@@ -9,7 +9,7 @@ use native.Mathlib.Omega.{arith}
 use native.Mathlib.Nat.{add-sub-cancel-left}
 use lib.Dec.{eqb}
 use lib.ListN.{length, take, drop}
-use borrow.Author.Tests.{ne-eqb, eqb-true}
+use borrow.Author.Tests.{ne-eqb, eqb-true, eqb-false}
 use Rattle.layout.specs.Choice.{pick, cases}
 use Rattle.layout.specs.Handle.{areaOf}
 use Rattle.layout.specs.Header.{dataOf}
@@ -25,7 +25,7 @@ use Rattle.objects.specs.Places.{Lies}
 use Rattle.views.specs.declared.ViewPlace.{ViewPlace}
 use Rattle.access.specs.Statuses.{area-is, words-is}
 use Rattle.access.specs.Effects.{place-is, index-is, object-lies}
-use Rattle.views.specs.PlacedView.{viewStore, viewFrom, viewLength, viewPlaceOf, PlacedView}
+use Rattle.views.specs.PlacedView.{viewStore, viewFrom, viewLength, viewPlaceOf, PlacedView, wordsThere}
 
 module _ (s : State) (m : Memory) (t p : ℕ) where
   pub view-is : useStatus s m t p 0 ≡ viewStatus s m t p
@@ -135,3 +135,9 @@ module _ (s : State) (m : Memory) (t p : ℕ) where
           × PlacedView (scratch .0, r .from * 8 + scratch .1) permanent scratch s m t p
       view-scratch permanent scratch =
           viewed (m .scratch) scratch permanent scratch (in-scratch (m .permanent) (m .scratch) (λ z. h (store-is ∙ z))) (in-scratch permanent scratch (λ z. h (store-is ∙ z)))
+
+    -- the words at the place are those that are shown
+    pub there-is : wordsThere r m ≡ viewWords s m t p
+    there-is = cases (eqb (r .store) 0)
+        (λ k. rw k (rw add-sub-cancel-left at (view-permanent (eqb-true (r .store) 0 k) (0, 0) (0, 0) .0)))
+        (λ k. rw k (rw add-sub-cancel-left at (view-scratch (eqb-false (r .store) 0 k) (0, 0) (0, 0) .0)))

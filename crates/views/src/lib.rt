@@ -8,10 +8,9 @@ ghost use mathlib.Core.Path.{_≡_};
 ghost use Rattle.layout.specs.Choice.{pick};
 ghost use Rattle.model.specs.State.{isScope};
 ghost use Rattle.model.specs.Checks.{useStatus};
-ghost use Rattle.model.specs.Data.{viewWords};
 ghost use Rattle.model.specs.Calls as calls;
 ghost use Rattle.tables.specs.Decode.{stateOf};
-ghost use Rattle.tables.specs.Contract.{memoryOf, Ready, Told};
+ghost use Rattle.tables.specs.Contract.{memoryOf, Ready, Told, viewReply, Replies};
 ghost use Rattle.objects.specs.Found.{objectOf};
 ghost use Rattle.access.specs.Spots.{spotOf};
 ghost use Rattle.views.specs.PlacedView.{viewPlaceOf, PlacedView};
@@ -97,7 +96,7 @@ pub fn view<'a>(
     p: u64,
 ) -> &'a [u64]
     requires { ⌜ Ready (now words) (now bytes) ⌝ }
-    ensures { λ r. ⌜ now r ≡ viewWords (stateOf (now (words .entry)) (now (bytes .entry))) (memoryOf (now (permanent .entry)) (now (scratch .entry)) (now (map .entry))) t p ⌝ }
+    ensures { λ r. ⌜ Replies (viewReply (now r)) words bytes permanent scratch map (calls.view t p) ⌝ }
     ensures { λ r. ⌜ PlacedView (r .ptr) (permanent .entry .ptr) (scratch .entry .ptr) (stateOf (now (words .entry)) (now (bytes .entry))) (memoryOf (now (permanent .entry)) (now (scratch .entry)) (now (map .entry))) t p ⌝ }
 {
     let place = view_place(words, bytes, permanent, scratch, map, t, p);

@@ -7,6 +7,7 @@ use Rattle.tables.specs.Contract.{memoryOf}
 use Prim.Native.Nat.{_+_, _≤_}
 use native.Mathlib.Omega.{arith}
 use Rattle.views.specs.ViewLaws.{place-low, permanent-end, scratch-end, view-permanent, view-scratch}
+use Rattle.views.specs.ViewAnswers.{view-answered}
 use Rattle.views.proofs.view.Statement.{statement}
 use Rattle.views.proofs.view.Tie as tie
 
@@ -45,7 +46,8 @@ part-result-end c =
 returns : tie.Need-returns
 returns c =
     let d = c .before .before .before in
-    view-permanent (state d) (memory d) (start d .args .t) (start d .args .p) _ (d .view-place .ensures) (c .before .if1 .taken) (start d .args .permanent .ptr) (start d .args .scratch .ptr)
+    let v = view-permanent (state d) (memory d) (start d .args .t) (start d .args .p) _ (d .view-place .ensures) (c .before .if1 .taken) (start d .args .permanent .ptr) (start d .args .scratch .ptr) in
+    (view-answered _ _ (memory d) (start d .args .t) (start d .args .p) (start d .pre) (v .0), v .1)
 
 mul-result-2 : tie.Need-mul-result-2
 mul-result-2 c = omega (arith, low (c .before .before))
@@ -64,7 +66,8 @@ part-result-end-2 c =
 returns-2 : tie.Need-returns-2
 returns-2 c =
     let d = c .before .before .before in
-    view-scratch (state d) (memory d) (start d .args .t) (start d .args .p) _ (d .view-place .ensures) (c .before .if1 .left) (start d .args .permanent .ptr) (start d .args .scratch .ptr)
+    let v = view-scratch (state d) (memory d) (start d .args .t) (start d .args .p) _ (d .view-place .ensures) (c .before .if1 .left) (start d .args .permanent .ptr) (start d .args .scratch .ptr) in
+    (view-answered _ _ (memory d) (start d .args .t) (start d .args .p) (start d .pre) (v .0), v .1)
 
 pub view-spec : {M : Type 1} → statement M
 view-spec =

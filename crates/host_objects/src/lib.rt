@@ -1,0 +1,159 @@
+// The core for C and Rust, second part: ops 06 to 0a: an object is allocated, its slots are stored and
+// loaded, its data words written and read; and its data as a part of its store. What a call is lent and
+// promises is as in `host_state`.
+use layout::stack::Answer;
+use tables::Bytes;
+use tables::Words;
+use views::ViewPlace;
+ghost use mathlib.Core.Path.{_≡_};
+ghost use Rattle.model.specs.Calls as calls;
+ghost use Rattle.tables.specs.Decode.{stateOf};
+ghost use Rattle.tables.specs.Contract.{memoryOf, Ready, Answers};
+ghost use Rattle.views.specs.PlacedView.{viewPlaceOf, PlaceAnswers};
+
+// Op 06: an object with so many slots and data words in the current area; the value is its handle.
+#[no_mangle]
+pub extern "C" fn scopes_allocate(
+    words: &mut Words,
+    bytes: &Bytes,
+    permanent: &mut [u64],
+    scratch: &mut [u64],
+    map: &mut [u64],
+    t: u64,
+    slots: u64,
+    data_words: u64,
+) -> Answer
+    requires { ⌜ Ready (now words) (now bytes) ⌝ }
+    ensures { λ r. ⌜ Answers r words bytes permanent scratch map (calls.allocate t slots data_words) ⌝ }
+{
+    allocation::allocate(words, bytes, permanent, scratch, map, t, slots, data_words)
+}
+
+// Op 07: a reference to a target, or null, is stored in a slot of an object.
+#[no_mangle]
+pub extern "C" fn scopes_store(
+    words: &Words,
+    bytes: &Bytes,
+    permanent: &mut [u64],
+    scratch: &mut [u64],
+    map: &[u64],
+    t: u64,
+    object: u64,
+    slot: u64,
+    target: u64,
+) -> Answer
+    requires { ⌜ Ready (now words) (now bytes) ⌝ }
+    ensures { λ r. ⌜ Answers r words bytes permanent scratch map (calls.store t object slot target) ⌝ }
+{
+    references::store(
+        words,
+        bytes,
+        permanent,
+        scratch,
+        map,
+        t,
+        object,
+        slot,
+        target,
+    )
+}
+
+// Op 08: the value is the reference in a slot of an object.
+#[no_mangle]
+pub extern "C" fn scopes_load(
+    words: &Words,
+    bytes: &Bytes,
+    permanent: &[u64],
+    scratch: &[u64],
+    map: &[u64],
+    t: u64,
+    object: u64,
+    slot: u64,
+) -> Answer
+    requires { ⌜ Ready (now words) (now bytes) ⌝ }
+    ensures { λ r. ⌜ Answers r words bytes permanent scratch map (calls.load t object slot) ⌝ }
+{
+    references::load(words, bytes, permanent, scratch, map, t, object, slot)
+}
+
+// Op 09: a data word of an object is written.
+#[no_mangle]
+pub extern "C" fn scopes_write(
+    words: &Words,
+    bytes: &Bytes,
+    permanent: &mut [u64],
+    scratch: &mut [u64],
+    map: &[u64],
+    t: u64,
+    object: u64,
+    index: u64,
+    word: u64,
+) -> Answer
+    requires { ⌜ Ready (now words) (now bytes) ⌝ }
+    ensures { λ r. ⌜ Answers r words bytes permanent scratch map (calls.write t object index word) ⌝ }
+{
+    access::write(
+        words,
+        bytes,
+        permanent,
+        scratch,
+        map,
+        t,
+        object,
+        index,
+        word,
+    )
+}
+
+// Op 0a: the value is a data word of an object.
+#[no_mangle]
+pub extern "C" fn scopes_read(
+    words: &Words,
+    bytes: &Bytes,
+    permanent: &[u64],
+    scratch: &[u64],
+    map: &[u64],
+    t: u64,
+    object: u64,
+    index: u64,
+) -> Answer
+    requires { ⌜ Ready (now words) (now bytes) ⌝ }
+    ensures { λ r. ⌜ Answers r words bytes permanent scratch map (calls.read t object index) ⌝ }
+{
+    access::read(words, bytes, permanent, scratch, map, t, object, index)
+}
+
+// The status of showing an object's data.
+#[no_mangle]
+pub extern "C" fn scopes_view_status(
+    words: &Words,
+    bytes: &Bytes,
+    permanent: &[u64],
+    scratch: &[u64],
+    map: &[u64],
+    t: u64,
+    object: u64,
+) -> Answer
+    requires { ⌜ Ready (now words) (now bytes) ⌝ }
+    ensures { λ r. ⌜ Answers r words bytes permanent scratch map (calls.viewed t object) ⌝ }
+{
+    views::view_status(words, bytes, permanent, scratch, map, t, object)
+}
+
+// Where its data lie: a store, the first word and how many; what `views::view` shows.
+#[no_mangle]
+pub extern "C" fn scopes_view_place(
+    words: &Words,
+    bytes: &Bytes,
+    permanent: &[u64],
+    scratch: &[u64],
+    map: &[u64],
+    t: u64,
+    object: u64,
+) -> ViewPlace
+    requires { ⌜ Ready (now words) (now bytes) ⌝ }
+    ensures { λ r. ⌜ r ≡ viewPlaceOf (stateOf (now (words .entry)) (now (bytes .entry))) (memoryOf (now (permanent .entry)) (now (scratch .entry)) (now (map .entry))) t object ⌝ }
+    ensures { λ r. ⌜ PlaceAnswers r words bytes permanent scratch map t object ⌝ }
+{
+    views::view_place(words, bytes, permanent, scratch, map, t, object)
+}

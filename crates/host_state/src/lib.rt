@@ -1,0 +1,113 @@
+// The core for C and Rust, first part: set-up, and ops 01 to 05: threads start and end, scopes are made,
+// entered and left. One exported function for each call, thin over the crate that has it.
+//
+// The host keeps the two tables of the state, `words` and `bytes`, and the three buffers, and lends
+// them to each call. Beside that a call asks one thing, `Ready`: that the tables are those that
+// set-up gave and that calls alone have changed since. Every call leaves it for the next. What the
+// buffers hold is free. What a call answers and leaves is the one contract of any call, `Answers`.
+use layout::stack::Answer;
+use setup::SetUp;
+use tables::Bytes;
+use tables::Words;
+ghost use Rattle.model.specs.SetUp.{lengthsOf};
+ghost use Rattle.model.specs.Calls as calls;
+ghost use Rattle.tables.specs.Contract.{memoryOf, Ready, Answers};
+ghost use Rattle.setup.specs.First.{Begun};
+
+// Set-up: the first h words of the permanent store are the heap's, the other i immortal memory's.
+#[no_mangle]
+pub extern "C" fn scopes_set_up(
+    permanent: &[u64],
+    scratch: &[u64],
+    map: &[u64],
+    h: u64,
+    i: u64,
+) -> SetUp
+    ensures { λ r. ⌜ Begun (r .status) (r .words) (r .bytes) h i (lengthsOf (memoryOf (now (permanent .entry)) (now (scratch .entry)) (now (map .entry)))) ⌝ }
+{
+    setup::set_up(permanent, scratch, map, h, i)
+}
+
+// Op 01: thread t starts, of a kind.
+#[no_mangle]
+pub extern "C" fn scopes_start(
+    words: &mut Words,
+    bytes: &Bytes,
+    permanent: &[u64],
+    scratch: &[u64],
+    map: &[u64],
+    t: u64,
+    kind: u64,
+) -> Answer
+    requires { ⌜ Ready (now words) (now bytes) ⌝ }
+    ensures { λ r. ⌜ Answers r words bytes permanent scratch map (calls.start t kind) ⌝ }
+{
+    threads::start(words, bytes, permanent, scratch, map, t, kind)
+}
+
+// Op 02: thread t ends.
+#[no_mangle]
+pub extern "C" fn scopes_end(
+    words: &mut Words,
+    bytes: &Bytes,
+    permanent: &[u64],
+    scratch: &[u64],
+    map: &[u64],
+    t: u64,
+) -> Answer
+    requires { ⌜ Ready (now words) (now bytes) ⌝ }
+    ensures { λ r. ⌜ Answers r words bytes permanent scratch map (calls.end t) ⌝ }
+{
+    threads::end(words, bytes, permanent, scratch, map, t)
+}
+
+// Op 03: a scope is made, of a size in words.
+#[no_mangle]
+pub extern "C" fn scopes_make(
+    words: &mut Words,
+    bytes: &Bytes,
+    permanent: &[u64],
+    scratch: &[u64],
+    map: &[u64],
+    t: u64,
+    area: u64,
+    size: u64,
+) -> Answer
+    requires { ⌜ Ready (now words) (now bytes) ⌝ }
+    ensures { λ r. ⌜ Answers r words bytes permanent scratch map (calls.make t area size) ⌝ }
+{
+    areas::make::make(words, bytes, permanent, scratch, map, t, area, size)
+}
+
+// Op 04: an area is entered; the value is its generation.
+#[no_mangle]
+pub extern "C" fn scopes_enter(
+    words: &mut Words,
+    bytes: &mut Bytes,
+    permanent: &[u64],
+    scratch: &[u64],
+    map: &[u64],
+    t: u64,
+    area: u64,
+) -> Answer
+    requires { ⌜ Ready (now words) (now bytes) ⌝ }
+    ensures { λ r. ⌜ Answers r words bytes permanent scratch map (calls.enter t area) ⌝ }
+{
+    entry::enter(words, bytes, permanent, scratch, map, t, area)
+}
+
+// Op 05: the current area is left; the value is the count that is left of a scope, else 0.
+#[no_mangle]
+pub extern "C" fn scopes_exit(
+    words: &mut Words,
+    bytes: &Bytes,
+    permanent: &[u64],
+    scratch: &[u64],
+    map: &[u64],
+    t: u64,
+) -> Answer
+    requires { ⌜ Ready (now words) (now bytes) ⌝ }
+    ensures { λ r. ⌜ Answers r words bytes permanent scratch map (calls.exit t) ⌝ }
+{
+    exit::exit(words, bytes, permanent, scratch, map, t)
+}

@@ -1,0 +1,40 @@
+-- The calls that show an object's data, by the one contract of any call.
+-- Assumes nothing.
+use Prim.Native.Nat.{ℕ}
+use mathlib.Core.List.{List}
+use mathlib.Core.Path.{_≡_, refl}
+use lib.Dec.{eqb}
+use borrow.Author.Tests.{eqb-true}
+use Rattle.layout.specs.Choice.{cases}
+use Rattle.model.specs.State.{Memory}
+use Rattle.model.specs.Data.{viewStatus, viewWords}
+use Rattle.model.specs.Calls.{view, viewed, outcomeOf}
+use Rattle.tables.specs.Decode.{stateOf}
+use Rattle.tables.specs.Contract.{Ready, plain, viewReply, Answered}
+use Rattle.tables.specs.AnsweredLaws.{memory-kept}
+use Rattle.views.specs.declared.ViewPlace.{ViewPlace}
+use Rattle.views.specs.PlacedView.{viewPlaceOf, wordsThere}
+use Rattle.views.specs.ViewLaws.{there-is}
+
+module _ (w b : List ℕ) (m : Memory) (t p : ℕ) (y : Ready w b) where
+  -- the view, by the words that it gives
+  pub view-answered : {l : List ℕ} → l ≡ viewWords (stateOf w b) m t p → Answered w b m (view t p) (viewReply l) w b m
+  unfolding outcomeOf
+  view-answered e = record { reply-is = rw e refl; state-is = refl; memory-is = refl; ready = y }
+
+  -- a place, for both calls
+  module _ (r : ViewPlace) (e : r ≡ viewPlaceOf (stateOf w b) m t p) where
+    pub place-shows : Answered w b m (view t p) (viewReply (wordsThere r m)) w b m
+    place-shows = view-answered (there-is (stateOf w b) m t p r e)
+
+    pub place-tells : Answered w b m (viewed t p) (plain (r .status) 0) w b m
+    unfolding viewPlaceOf outcomeOf
+    place-tells = rw e (record { reply-is = reply-is; state-is = state-is; memory-is = memory-kept (stateOf w b) m (viewed t p) refl; ready = y })
+      where
+        reply-is : plain (viewStatus (stateOf w b) m t p) 0 ≡ outcomeOf (stateOf w b) m (viewed t p) .reply
+        reply-is = cases (eqb (viewStatus (stateOf w b) m t p) 0)
+            (λ k. rw (k, eqb-true (viewStatus (stateOf w b) m t p) 0 k) refl)
+            (λ k. rw k refl)
+
+        state-is : stateOf w b ≡ outcomeOf (stateOf w b) m (viewed t p) .state
+        state-is = cases (eqb (viewStatus (stateOf w b) m t p) 0) (λ k. rw k refl) (λ k. rw k refl)
