@@ -1,0 +1,2 @@
+-- What the trial promises.
+pub mod Trial
