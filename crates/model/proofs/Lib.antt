@@ -29,4 +29,7 @@ pub mod KeepsMemory
 pub mod MemoryClaims
 pub mod Outcomes
 pub mod Traces
+pub mod Openings
+pub mod Stored
+pub mod Answers
 pub mod Theorem
