@@ -51,6 +51,7 @@ module _ (s : State) (m : Memory) (ls : List Line) (o : Sound s m (historyOf ls)
 
 -- ---- every line
 
+-- each line of a trace answers by the lines before it
 abbrev pub AllAnswer : List Line → Type 0
 AllAnswer [] = Unit {0}
 AllAnswer (l ∷ ls) = Answers l ls × AllAnswer ls

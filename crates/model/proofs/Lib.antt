@@ -29,6 +29,7 @@ pub mod KeepsMemory
 pub mod MemoryClaims
 pub mod Outcomes
 pub mod Traces
+pub mod ValueMeanings
 pub mod Openings
 pub mod Stored
 pub mod Answers

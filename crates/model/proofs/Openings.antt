@@ -18,7 +18,7 @@ use Rattle.model.specs.Objects.{currentAt}
 use Rattle.model.specs.Calls.{Call, start, end, make, enter, exit, allocate, store, load, write, read, view, viewed, callStatus, callValue, callState}
 use Rattle.model.specs.Run.{Line}
 use Rattle.model.specs.History.{History, total, historyExit, historyOf}
-use Rattle.model.specs.Values.{openingStep, openingLine, lastOpening, entryGeneration, entriesLeft}
+use Rattle.model.specs.Values.{openingStep, lastOpening, entryGeneration, entriesLeft}
 use Rattle.model.proofs.Accepted.{MakeOk, make-ok, EnterOk, enter-ok, ExitOk, exit-ok, AllocateOk, allocate-ok}
 use Rattle.model.proofs.Sound.{generationIn, Sound}
 use Rattle.model.proofs.Bounds.{by-area, current-area}
@@ -29,17 +29,20 @@ use Rattle.model.proofs.Agrees.{row-top, left-count}
 use Rattle.model.proofs.NestingClaims.{history-nesting}
 use Rattle.model.proofs.Alters.{Stays, Alters, start-stays, end-stays, enter-low, exit-low, make-alters, open-alters, fresh-alters, left-alters, allocate-alters}
 use Rattle.model.proofs.Outcomes.{Transition}
+use Rattle.model.proofs.ValueMeanings.{opening-accepted, opening-refused}
 
 -- ---- what a call does to an area
 
--- its used words lie where they lay, and its generation is g
+-- x becomes y: its used words lie where they lay, and its generation is g
 pub record Carried (x y : Area) (g : ℕ) : Type 0 where
   pub start : 0 < x .used → y .start ≡ x .start
   pub generation : y .generation ≡ g
 
+-- it is as it was
 carried-same : {x y : Area} → y ≡ x → Carried x y (x .generation)
 carried-same e = rw e record { start = λ p. refl; generation = refl }
 
+-- one area becomes x
 carried-all : {s n : State} {q : ℕ} {x : Area} → Alters s n q x → Carried (areaAt s q) x (generationIn s q)
     → (a : ℕ) → Carried (areaAt s a) (areaAt n a) (generationIn s a)
 carried-all {q = q} e k a = cases (eqb a q)
@@ -51,6 +54,7 @@ module _ (s : State) (m : Memory) (b : History) (o : Sound s m b) where
   count-is : (a : ℕ) → 2 ≤ a → a < 64 → areaAt s a .count ≡ total a (b .rows)
   count-is = history-nesting s b (o .good) (o .same) .counts
 
+  -- no area is touched
   carried-stays : (n : State) → Stays s n → (a : ℕ) → Carried (areaAt s a) (areaAt n a) (generationIn s a)
   carried-stays n k a = carried-same (k .all a .area)
 
@@ -85,7 +89,8 @@ module _ (s : State) (m : Memory) (b : History) (o : Sound s m b) where
   carried-exit : (t : ℕ) → ExitOk s m t → (a : ℕ) → Carried (areaAt s a) (areaAt (exitState s t) a) (generationIn s a)
   carried-exit t k a = by-top s t
       (λ h. carried-stays (exitState s t) (exit-low s t h) a)
-      (λ h. carried-all (left-alters s (o .good .areas) t h (current-area s (o .good) t (k .called .thread))) record { start = λ p. refl; generation = refl } a)
+      (λ h. carried-all (left-alters s (o .good .areas) t h (current-area s (o .good) t (k .called .thread)))
+      record { start = λ p. refl; generation = refl } a)
 
   -- any accepted call
   pub carried-call : (c : Call) → callStatus s m c ≡ 0 → (a : ℕ)
@@ -100,7 +105,8 @@ module _ (s : State) (m : Memory) (b : History) (o : Sound s m b) where
   carried-call (exit t) z a = carried-exit t (exit-ok s m t z) a
   carried-call (allocate t q r) z a =
       let k : AllocateOk s m t q r = allocate-ok s m t q r z in
-      carried-all (allocate-alters s (o .good .areas) (currentAt s t) (current-area s (o .good) t (k .called .thread)) q r) record { start = λ p. refl; generation = refl } a
+      carried-all (allocate-alters s (o .good .areas) (currentAt s t) (current-area s (o .good) t (k .called .thread)) q r)
+      record { start = λ p. refl; generation = refl } a
   carried-call (store t p q r) z a = carried-same refl
   carried-call (load t p q) z a = carried-same refl
   carried-call (write t p q r) z a = carried-same refl
@@ -120,10 +126,10 @@ opened-first h i n a k = ap (λ (x : Area). x .generation) (first-scope h i n a 
 
 module _ (s : State) (m : Memory) (ls : List Line) (o : Sound s m (historyOf ls)) (g : Opened s ls) where
   pub opened-line : {l : Line} {n : State} {k : Memory} → Transition s m l n k → Opened n (l ∷ ls)
-  unfolding lastOpening openingLine
   opened-line {l} d a h = ⊎-elim
-      (λ x. rw (eq-eqb (l .reply .status) 0 (x .status), x .state, x .value, ← g a h) (carried-call s m (historyOf ls) o (l .call) (x .passed) a .generation))
-      (λ x. rw (ne-eqb (l .reply .status) 0 (x .status), x .state) (g a h))
+      (λ x. rw (opening-accepted l ls (x .status) a (l .call) refl, x .state, x .value, ← g a h)
+      (carried-call s m (historyOf ls) o (l .call) (x .passed) a .generation))
+      (λ x. rw (opening-refused l ls (x .status) a, x .state) (g a h))
       d
 
   -- ---- values
@@ -139,7 +145,8 @@ module _ (s : State) (m : Memory) (ls : List Line) (o : Sound s m (historyOf ls)
       (λ h c. rw (le-leb 2 q h, ne-eqb (total q (historyOf ls .rows)) 0 (λ y. omega (arith, count-is s m (historyOf ls) o q h (e .area))))
       (enter-open-value s m (historyOf ls) o q h c ∙ g q h))
 
-pub exit-value : (s : State) (m : Memory) (b : History) → Sound s m b → (t : ℕ) → callStatus s m (exit t) ≡ 0 → callValue s m (exit t) ≡ entriesLeft b t
+pub exit-value : (s : State) (m : Memory) (b : History) → Sound s m b → (t : ℕ)
+    → callStatus s m (exit t) ≡ 0 → callValue s m (exit t) ≡ entriesLeft b t
 unfolding exitValue entriesLeft historyExit
 exit-value s m b o t z =
     let k : ExitOk s m t = exit-ok s m t z in
@@ -147,5 +154,6 @@ exit-value s m b o t z =
     (λ h. rw (lt-leb 2 (currentAt s t) h))
     (λ h. rw (le-leb 2 (currentAt s t) h) (left h k)))
   where
-    left : 2 ≤ currentAt s t → ExitOk s m t → pred (areaAt s (currentAt s t) .count) ≡ total (currentAt s t) (set (b .rows) t (stackOf (popped (threadAt s t))))
+    left : 2 ≤ currentAt s t → ExitOk s m t
+        → pred (areaAt s (currentAt s t) .count) ≡ total (currentAt s t) (set (b .rows) t (stackOf (popped (threadAt s t))))
     left h k = omega (arith, left-count s m t (o .good) k b (o .same) h)

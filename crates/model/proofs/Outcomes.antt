@@ -59,7 +59,8 @@ module _ {s : State} {m : Memory} {l : Line} {n : State} {k : Memory} where
   pub sound-line : (b : History) → Sound s m b → Transition s m l n k → Sound n k (historyLine b l)
   sound-line b o = ⊎-elim
       (λ x. rw (x .state, x .memory, history-accepts x b)
-      (sound-call s m b (l .call) o (x .passed) (good-call s m (l .call) (o .good) (x .passed)) (same-call s m b (l .call) (callValue s m (l .call)) (o .good) (o .same) (x .passed))))
+      (sound-call s m b (l .call) o (x .passed) (good-call s m (l .call) (o .good) (x .passed))
+      (same-call s m b (l .call) (callValue s m (l .call)) (o .good) (o .same) (x .passed))))
       (λ x. rw (x .state, x .memory, history-refuses x b) o)
 
 -- ---- one call

@@ -3,12 +3,12 @@
 use Prim.Native.Nat.{ℕ, suc, _+_, _<_}
 use mathlib.Core.Bool.{true, false, _&&_}
 use mathlib.Core.List.{List, _∷_}
-use mathlib.Core.Path.{_≡_, sym, ap, _∙_}
+use mathlib.Core.Path.{_≡_, refl, sym, ap, _∙_}
 use mathlib.Core.Logic.{⊎-elim}
 use lib.ListN.{getD}
 use lib.Dec.{eqb}
 use native.Mathlib.Omega.{arith}
-use borrow.Author.Tests.{eqb-true, eqb-false, eq-eqb, ne-eqb}
+use borrow.Author.Tests.{eqb-true, eqb-false, eq-eqb}
 use Rattle.layout.specs.Choice.{pick, cases, and-true, and-false}
 use Rattle.layout.specs.Handle.{null, offsetOf, areaOf}
 use Rattle.layout.specs.HandleLaws.{area-lt}
@@ -23,7 +23,7 @@ use Rattle.model.specs.Data.{dataIndex}
 use Rattle.model.specs.Calls.{Call, start, end, make, enter, exit, allocate, store, load, write, read, view, viewed, callStatus, callValue, callState, callMemory}
 use Rattle.model.specs.Run.{Line}
 use Rattle.model.specs.History.{Object, History, occurrences, handles, historyStart, historyEnter, historyAllocate, historyStep, historyOf}
-use Rattle.model.specs.Values.{storedStep, storedLine, lastStored}
+use Rattle.model.specs.Values.{storedStep, lastStored}
 use Rattle.model.specs.Claims.{In}
 use Rattle.model.proofs.Accepted.{AllocateOk, allocate-ok, SlotOk, slot-ok, StoreOk, store-ok, DataOk, data-ok}
 use Rattle.model.proofs.Tiles.{place, tiled-apart}
@@ -34,8 +34,9 @@ use Rattle.model.proofs.Live.{live-given, given-tile, given-ends, given
 use Rattle.model.proofs.MemoryWords.{put-other-word, put-word}
 use Rattle.model.proofs.MemoryObjects.{word-other, made-tile}
 use Rattle.model.proofs.MemoryClaims.{tile-of, one-object}
-use Rattle.model.proofs.Outcomes.{Accepts, Refuses, Transition, history-accepts, history-refuses}
+use Rattle.model.proofs.Outcomes.{Transition, history-accepts, history-refuses}
 use Rattle.model.proofs.Traces.{area-below, exit-kept, made-or, made-in}
+use Rattle.model.proofs.ValueMeanings.{stored-accepted, stored-refused}
 use Rattle.model.proofs.Openings.{carried-call}
 
 -- slot j of the object with handle h holds f h j, for the objects of the book
@@ -175,11 +176,12 @@ Stored s m ls = Slots s m (historyOf ls) (λ h j. lastStored h j ls)
 
 module _ (s : State) (m : Memory) (ls : List Line) (o : Sound s m (historyOf ls)) (w : Stored s m ls) where
   pub stored-line : {l : Line} {n : State} {k : Memory} → Transition s m l n k → Sound n k (historyOf (l ∷ ls)) → Stored n k (l ∷ ls)
-  unfolding historyOf lastStored storedLine
-  stored-line {l} {n} {k} d z = ⊎-elim
-      (λ (x : Accepts s m l n k). rw (history-accepts x (historyOf ls), eq-eqb (l .reply .status) 0 (x .status), x .state, x .memory, x .value)
-      (slots-call s m (historyOf ls) o (λ h j. lastStored h j ls) w (l .call) (x .passed) (rw (history-accepts x (historyOf ls), x .state, x .memory) at z)))
-      (λ (x : Refuses s m l n k). rw (history-refuses x (historyOf ls), ne-eqb (l .reply .status) 0 (x .status), x .state, x .memory) w)
+  unfolding historyOf
+  stored-line {l} d z a x i j u = ⊎-elim
+      (λ y. rw (stored-accepted l ls (y .status) (x .handle) j (l .call) refl, y .state, y .memory, y .value)
+      (slots-call s m (historyOf ls) o (λ h j. lastStored h j ls) w (l .call) (y .passed)
+      (rw (history-accepts y (historyOf ls), y .state, y .memory) at z) a x (rw (history-accepts y (historyOf ls)) at i) j u))
+      (λ y. rw (stored-refused l ls (y .status) (x .handle) j, y .state, y .memory) (w a x (rw (history-refuses y (historyOf ls)) at i) j u))
       d
 
   pub load-value : (t p q : ℕ) → callStatus s m (load t p q) ≡ 0 → callValue s m (load t p q) ≡ lastStored p q ls

@@ -1,4 +1,4 @@
--- The third demand: after every list of calls, from every accepted set-up, each claim of specs/Claims.antt holds.
+-- After every list of calls, from every accepted set-up, each claim of specs/Claims.antt holds: the third demand, and what calls yield.
 -- Assumes nothing.
 use Prim.Native.Nat.{ℕ, suc, _+_, _<_}
 use mathlib.Core.Bool.{true, false}

@@ -49,7 +49,8 @@ exit-kept b t a x i =
     (λ e. rw e at i)
 
 -- an allocation makes one, in the area of the row's top
-pub made-or : (b : History) (t : ℕ) (o : Object) (a : ℕ) (x : Object) → In x (historyAllocate b t o .objects a) → ((a ≡ current (rowOf b t)) × (x ≡ o)) ⊎ In x (b .objects a)
+pub made-or : (b : History) (t : ℕ) (o : Object) (a : ℕ) (x : Object) → In x (historyAllocate b t o .objects a)
+    → ((a ≡ current (rowOf b t)) × (x ≡ o)) ⊎ In x (b .objects a)
 unfolding historyAllocate
 made-or b t o a x i = ⊎-elim
     (λ k. ⊎-elim (λ z. inl (k .1, z)) (λ z. inr (rw (← (k .1)) at z)) (top-or (k .0) o (b .objects (current (rowOf b t))) refl))

@@ -1,4 +1,4 @@
--- What is claimed after every list of calls: the third demand, each claim a field of one record.
+-- What is claimed after every list of calls: the third demand, and the values of loads, entries and exits. Each claim is a field of one record.
 -- Assumes nothing.
 use Prim.Native.Nat.{ℕ, suc, _+_, _≤_, _<_}
 use mathlib.Core.Bool.{Bool, true, false}

@@ -55,6 +55,7 @@ openingStep b a g (read t p q) v = g
 openingStep b a g (view t p) v = g
 openingStep b a g (viewed t p) v = g
 
+-- a refused call opens nothing
 unfoldable pub openingLine : History → ℕ → ℕ → Line → ℕ
 openingLine b a g l = pick (eqb (l .reply .status) 0) (openingStep b a g (l .call) (l .reply .value)) g
 
