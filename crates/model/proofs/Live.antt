@@ -6,14 +6,15 @@ use mathlib.Core.List.{List, []}
 use mathlib.Core.Path.{_≡_, refl, sym, ap, _∙_}
 use lib.Dec.{eqb, leb, ltb}
 use native.Mathlib.Omega.{arith}
-use borrow.Author.Tests.{ltb-true, ltb-false, eqb-true, eq-eqb, ne-eqb, le-leb, lt-ltb, le-ltb}
+use borrow.Author.Tests.{ltb-true, ltb-false, eqb-true, eq-eqb, le-leb, lt-ltb, le-ltb}
 use Rattle.layout.specs.Choice.{cases, and-true}
-use Rattle.layout.specs.Handle.{null, handleOf, offsetOf, areaOf, generationOf}
+use Rattle.layout.specs.Handle.{handleOf, offsetOf, areaOf, generationOf}
 use Rattle.layout.specs.Header.{headerOf, slotsOf, dataOf}
 use Rattle.layout.specs.HandleLaws.{packed, area-lt, area-packed, generation-packed, slots-packed, data-packed}
 use Rattle.model.specs.State.{State, Memory, isOpen, displayAt, wordAt}
 use Rattle.model.specs.Checks.{headerAt, live}
 use Rattle.model.specs.History.{Object, History, occurrences, handles}
+use Rattle.model.specs.Claims.{In}
 use Rattle.model.specs.Invariant.{countIn}
 use Rattle.model.proofs.Lists.{occ-nil}
 use Rattle.model.proofs.Tiles.{place, Tile, tiled-at, tiled-has}
@@ -25,7 +26,7 @@ module _ (s : State) (m : Memory) (b : History) (o : Sound s m b) where
   -- an object of area a, with its tile
   pub object-tile : (a : ℕ) → a < 64 → (h : ℕ) → 0 < occurrences h (handles (b .objects a))
       → (x : Object) × (n : ℕ) × (x .handle ≡ h)
-      × Tile (wordAt s m a) (bitIn s m a) (Ok (b .objects) (displayAt s) a) (λ y. handleOf y a (generationIn s a)) x n × (n ≤ usedIn s a)
+      × Tile (wordAt s m a) (bitIn s m a) (Ok (b .objects) (displayAt s) a) (λ y. handleOf y a (generationIn s a)) x n × (n ≤ usedIn s a) × In x (b .objects a)
   object-tile a k h p = tiled-has _ _ _ _ (b .objects a) (usedIn s a) h (o .memory .tiles a k) p
 
   -- the handles of area a's objects have its number and its generation
@@ -66,7 +67,7 @@ module _ (s : State) (m : Memory) (b : History) (o : Sound s m b) where
 
       pub given-tile : (x : Object) × (n : ℕ) × (x .handle ≡ h)
           × Tile (wordAt s m (areaOf h)) (bitIn s m (areaOf h)) (Ok (b .objects) (displayAt s) (areaOf h)) (λ y. handleOf y (areaOf h) (generationIn s (areaOf h))) x n
-          × (n ≤ usedIn s (areaOf h))
+          × (n ≤ usedIn s (areaOf h)) × In x (b .objects (areaOf h))
       given-tile = object-tile (areaOf h) (area-lt h) h p
 
       pub given-place : place (given-tile .0) ≡ offsetOf h

@@ -2,13 +2,13 @@
 -- Assumes nothing.
 use Prim.Native.Nat.{ℕ, suc, _+_, _≤_, _<_}
 use mathlib.Core.Bool.{Bool, true, false, not, _||_, false≢true}
-use mathlib.Core.List.{List, [], _∷_}
+use mathlib.Core.List.{List, []}
 use mathlib.Core.Path.{_≡_, refl, sym, ap, _∙_}
 use mathlib.Core.Logic.{_≢_, ⊎-elim}
 use lib.Dec.{eqb, leb}
 use native.Mathlib.Omega.{arith}
-use borrow.Author.Tests.{leb-false, eqb-true, eqb-false, eq-eqb, not-false}
-use Rattle.layout.specs.Choice.{refuse, cases, and-true}
+use borrow.Author.Tests.{leb-false, eq-eqb, not-false}
+use Rattle.layout.specs.Choice.{refuse, and-true}
 use Rattle.layout.specs.Handle.{null, handleOf, offsetOf, areaOf}
 use Rattle.layout.specs.Header.{slotsOf}
 use Rattle.model.specs.State.{State, Memory, displayAt, wordAt}
@@ -16,8 +16,8 @@ use Rattle.model.specs.Checks.{fits, isStarted, admit, hasRight, headerA
 use Rattle.model.specs.References.{wordAfter, slotStatus, referenceStatus, loadStatus}
 use Rattle.model.specs.History.{Object, History, occurrences, handles}
 use Rattle.model.specs.Claims.{In, first, later}
-use Rattle.model.proofs.Lists.{occ-same, occ-other}
-use Rattle.model.proofs.Tiles.{Tile, tiled-in, tiled-one}
+use Rattle.model.proofs.Lists.{occ-same}
+use Rattle.model.proofs.Tiles.{Tile, tiled-in, handles-in, tiled-one}
 use Rattle.model.proofs.Memory.{Ok}
 use Rattle.model.proofs.Sound.{usedIn, generationIn, bitIn, Sound}
 use Rattle.model.proofs.Live.{tile-parts, given-live}
@@ -29,15 +29,6 @@ in-handles : {x : Object} {l : List Object} → In x l → 0 < occurrences (x .h
 unfolding occurrences
 in-handles {x} (first {l = l}) = omega (arith, occ-same (x .handle) (handles l))
 in-handles (later i) = omega (arith, in-handles i)
-
-handles-in : (h : ℕ) (l : List Object) → 0 < occurrences h (handles l) → (x : Object) × In x l × (x .handle ≡ h)
-unfolding occurrences
-handles-in h [] p = absurd (omega arith)
-handles-in h (y ∷ l) p = cases (eqb (y .handle) h)
-    (λ e. (y, first, eqb-true (y .handle) h e))
-    (λ e.
-    let z : (x : Object) × In x l × (x .handle ≡ h) = handles-in h l (rw (occ-other h (y .handle) (handles l) (eqb-false (y .handle) h e)) at p) in
-    (z .0, later (z .1), z .2))
 
 -- one refusal: it gives another number than 15, or its test fails
 past-15 : (b : Bool) (k rest : ℕ) → (b ≡ true → k ≢ 15) → (b ≡ false → rest ≢ 15) → refuse b k rest ≢ 15
@@ -51,7 +42,7 @@ or-second false y e = e
 
 module _ (s : State) (m : Memory) (b : History) (o : Sound s m b) where
   -- an object's tile
-  tile-of : (a : ℕ) (x : Object) → a < 64 → In x (b .objects a)
+  pub tile-of : (a : ℕ) (x : Object) → a < 64 → In x (b .objects a)
       → (n : ℕ) × Tile (wordAt s m a) (bitIn s m a) (Ok (b .objects) (displayAt s) a) (λ y. handleOf y a (generationIn s a)) x n × (n ≤ usedIn s a)
   tile-of a x h i = tiled-in (usedIn s a) i (o .memory .tiles a h)
 

@@ -146,7 +146,7 @@ module _ (s : State) (m : Memory) (b : History) (o : Sound s m b) (c slots words
   bits-in : suc (bitIndex s c (usedIn s c) + (slots + words)) ≤ 64 * length (m .map)
   bits-in = omega (arith, bit-in s m (o .good .placed) (o .supplied) c hc (usedIn s c + slots + words) rm)
 
-  word-other : (a j : ℕ) → a < 64 → j < usedIn s a → wordAt n k a j ≡ wordAt s m a j
+  pub word-other : (a j : ℕ) → a < 64 → j < usedIn s a → wordAt n k a j ≡ wordAt s m a j
   unfolding allocateMemory
   word-other a j h p = rw (start-is a) (read-same marked c _ a (areaAt s a .start + j) (λ e.
       object-other (storeOf m c) (areaAt s c .start + usedIn s c) slots words (areaAt s a .start + j) (λ i l d.
@@ -169,8 +169,8 @@ module _ (s : State) (m : Memory) (b : History) (o : Sound s m b) (c slots words
   bit-here : (j : ℕ) → bitIn n k c j ≡ eqb (bitAt (objectBits (m .map) (bitIndex s c (usedIn s c)) (slots + words)) (bitIndex s c j)) 1
   bit-here j = rw (map-is, index-is c j)
 
-  tile : Tile (wordAt n k c) (bitIn n k c) (λ y. y ≡ 0) (λ y. handleOf y c (generationIn s c)) made (suc (usedIn s c + slots + words))
-  tile = record {
+  pub made-tile : Tile (wordAt n k c) (bitIn n k c) (λ y. y ≡ 0) (λ y. handleOf y c (generationIn s c)) made (suc (usedIn s c + slots + words))
+  made-tile = record {
     made = value ∙ ap (λ (y : ℕ). handleOf y c (generationIn s c)) (sym at-place);
     ends = ap (λ (y : ℕ). suc (y + slots + words)) at-place;
     head = rw at-place (word-here (usedIn s c) ∙ object-head (storeOf m c) (areaAt s c .start + usedIn s c) slots words (omega (arith, words-in)));
@@ -211,7 +211,7 @@ module _ (s : State) (m : Memory) (b : History) (o : Sound s m b) (c slots words
     supplied = fits-then;
     memory = rw eo (mem-cong
         (mem-alloc (o .memory) c made (usedIn n) (wordAt n k) (bitIn n k) hc oc at-place (ap (λ (x : Area). x .used) (to .here))
-        (λ a ne. ap (λ (x : Area). x .used) (to .others a ne .area)) tile word-other bit-other)
+        (λ a ne. ap (λ (x : Area). x .used) (to .others a ne .area)) made-tile word-other bit-other)
         (displayAt n) (countIn n) (usedIn n) (generationIn n) display-is count-is (λ a. refl) generation-is);
     dead = rw eg (λ h p. dead-on s n h (moved-all to record { start = λ q. refl; later = omega arith; fresh = λ q z. absurd (omega arith) } (areaOf h)) (o .dead h p));
     above = rw eo (λ a h. put-other (b .objects) c _ a (λ e. omega arith) ∙ o .above a h);

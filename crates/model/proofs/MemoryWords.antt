@@ -31,17 +31,17 @@ use Rattle.model.proofs.Live.{live-given, given-tile, given-place, give
 -- ---- one used word is replaced
 
 -- the memory with v for word p of area c
-abbrev wordPut : State → Memory → ℕ → ℕ → ℕ → Memory
+abbrev pub wordPut : State → Memory → ℕ → ℕ → ℕ → Memory
 wordPut s m c p v = withStore m c (set (storeOf m c) (areaAt s c .start + p) v)
 
 module _ (s : State) (m : Memory) (b : History) (o : Sound s m b) (c p v : ℕ) (hc : c < 64) (hp : p < usedIn s c) where
-  put-other-word : (a j : ℕ) → a < 64 → j < usedIn s a → (a ≡ c → j ≡ p → ⊥) → wordAt s (wordPut s m c p v) a j ≡ wordAt s m a j
+  pub put-other-word : (a j : ℕ) → a < 64 → j < usedIn s a → (a ≡ c → j ≡ p → ⊥) → wordAt s (wordPut s m c p v) a j ≡ wordAt s m a j
   put-other-word a j h q ne = read-same m c (set (storeOf m c) (areaAt s c .start + p) v) a (areaAt s a .start + j) (λ e.
       getD-set-other (storeOf m c) (areaAt s c .start + p) (areaAt s a .start + j) v 0 (λ d.
       let w = one-place s (o .good .placed) a c h hc j p (used-in s (o .good .placed) a h j q) (used-in s (o .good .placed) c hc p hp) e d in
       ne (w .0) (w .1)))
 
-  put-word : wordAt s (wordPut s m c p v) c p ≡ v
+  pub put-word : wordAt s (wordPut s m c p v) c p ≡ v
   put-word = rw (replaced m c (set (storeOf m c) (areaAt s c .start + p) v) c refl)
       (getD-set-same (storeOf m c) (areaAt s c .start + p) v 0 (word-in s m (o .good .placed) (o .supplied) c hc p (used-in s (o .good .placed) c hc p hp)))
 

@@ -1,12 +1,13 @@
--- One call: what it leaves where it is accepted, refused, or lent a memory of other lengths.
+-- One call: the line that it leaves, and what it leads to where it is accepted, refused, or lent a memory of other lengths.
 -- Assumes nothing.
 use Prim.Native.Nat.{ℕ}
 use mathlib.Core.Bool.{true, false, not}
 use mathlib.Core.Path.{_≡_, refl, ap}
+use mathlib.Core.Logic.{_≢_, _⊎_, inl, inr, ⊎-elim}
 use lib.Dec.{eqb}
 use native.Mathlib.Omega.{arith}
-use borrow.Author.Tests.{eqb-true, eq-eqb, ne-eqb}
-use Rattle.layout.specs.Choice.{cases, hit}
+use borrow.Author.Tests.{eqb-true, eqb-false, eq-eqb, ne-eqb}
+use Rattle.layout.specs.Choice.{pick, cases, hit}
 use Rattle.model.specs.State.{State, Memory}
 use Rattle.model.specs.Checks.{fits, admit, useStatus}
 use Rattle.model.specs.Threads.{startStatus, endStatus}
@@ -22,82 +23,96 @@ use Rattle.model.proofs.Keeps.{good-call}
 use Rattle.model.proofs.Agrees.{same-call}
 use Rattle.model.proofs.KeepsMemory.{sound-call}
 
--- ---- one call, lent a memory of the right lengths
+-- ---- what a line leads to
 
--- an accepted call, and a refused one
-pub accepted : (s : State) (m : Memory) (c : Call) → eqb (callStatus s m c) 0 ≡ true
-    → (outcomeOf s m c .state ≡ callState s c) × (outcomeOf s m c .memory ≡ callMemory s m c)
-    × (outcomeOf s m c .reply .status ≡ 0) × (outcomeOf s m c .reply .value ≡ callValue s m c)
-unfolding outcomeOf
-accepted s m c e = rw e (refl, refl, refl, refl)
+-- from s and m to n and k: its call is accepted, ..
+pub record Accepts (s : State) (m : Memory) (l : Line) (n : State) (k : Memory) : Type 0 where
+  pub passed : callStatus s m (l .call) ≡ 0
+  pub state : n ≡ callState s (l .call)
+  pub memory : k ≡ callMemory s m (l .call)
+  pub status : l .reply .status ≡ 0
+  pub value : l .reply .value ≡ callValue s m (l .call)
 
-pub refused : (s : State) (m : Memory) (c : Call) → eqb (callStatus s m c) 0 ≡ false
-    → (outcomeOf s m c .state ≡ s) × (outcomeOf s m c .memory ≡ m) × (outcomeOf s m c .reply .status ≡ callStatus s m c)
-unfolding outcomeOf
-refused s m c e = rw e (refl, refl, refl)
+-- .. or refused, by its own status or for the lengths of what it was lent
+pub record Refuses (s : State) (m : Memory) (l : Line) (n : State) (k : Memory) : Type 0 where
+  pub state : n ≡ s
+  pub memory : k ≡ m
+  pub status : l .reply .status ≢ 0
+  pub number : (l .reply .status ≡ callStatus s m (l .call)) ⊎ (l .reply .status ≡ 1)
+
+abbrev pub Transition : State → Memory → Line → State → Memory → Type 0
+Transition s m l n k = Accepts s m l n k ⊎ Refuses s m l n k
+
+module _ {s : State} {m : Memory} {l : Line} {n : State} {k : Memory} where
+  -- an accepted line is one that leads to what an accepted call leaves
+  pub accepts : Transition s m l n k → l .reply .status ≡ 0 → Accepts s m l n k
+  accepts d e = ⊎-elim (λ x. x) (λ x. absurd (x .status e)) d
+
+  pub history-accepts : Accepts s m l n k → (b : History) → historyLine b l ≡ historyStep b (l .call) (callValue s m (l .call))
+  unfolding historyLine
+  history-accepts x b = rw (eq-eqb (l .reply .status) 0 (x .status), x .value)
+
+  pub history-refuses : Refuses s m l n k → (b : History) → historyLine b l ≡ b
+  unfolding historyLine
+  history-refuses x b = rw (ne-eqb (l .reply .status) 0 (x .status))
+
+  pub sound-line : (b : History) → Sound s m b → Transition s m l n k → Sound n k (historyLine b l)
+  sound-line b o = ⊎-elim
+      (λ x. rw (x .state, x .memory, history-accepts x b)
+      (sound-call s m b (l .call) o (x .passed) (good-call s m (l .call) (o .good) (x .passed))
+      (same-call s m b (l .call) (callValue s m (l .call)) (o .good) (o .same) (x .passed))))
+      (λ x. rw (x .state, x .memory, history-refuses x b) o)
+
+-- ---- one call
 
 -- the line that a call leaves
 abbrev pub lineOf : State → Memory → Call → Line
 lineOf s m c = record { call = c; reply = outcomeOf s m c .reply }
 
-pub history-accepted : (s : State) (m : Memory) (b : History) (c : Call) → eqb (callStatus s m c) 0 ≡ true
-    → historyLine b (lineOf s m c) ≡ historyStep b c (callValue s m c)
-unfolding historyLine
-history-accepted s m b c e =
-    let k = accepted s m c e in
-    rw (eq-eqb (outcomeOf s m c .reply .status) 0 (k .2), k .3)
+-- lent a memory of the right lengths
+pub transition : (s : State) (m : Memory) (c : Call) → Transition s m (lineOf s m c) (outcomeOf s m c .state) (outcomeOf s m c .memory)
+unfolding outcomeOf
+transition s m c = cases (eqb (callStatus s m c) 0)
+    (λ e. rw e (inl record { passed = eqb-true (callStatus s m c) 0 e; state = refl; memory = refl; status = refl; value = refl }))
+    (λ e. rw e (inr record { state = refl; memory = refl; status = eqb-false (callStatus s m c) 0 e; number = inl refl }))
 
-pub history-refused : (s : State) (m : Memory) (b : History) (c : Call) → eqb (callStatus s m c) 0 ≡ false → historyLine b (lineOf s m c) ≡ b
-unfolding historyLine
-history-refused s m b c e =
-    let k = refused s m c e in
-    rw (k .2, e)
-
-pub sound-line : (s : State) (m : Memory) (b : History) (c : Call) → Sound s m b
-    → Sound (outcomeOf s m c .state) (outcomeOf s m c .memory) (historyLine b (lineOf s m c))
-sound-line s m b c o =
-    cases (eqb (callStatus s m c) 0)
-    (λ e.
-    let k = accepted s m c e in
-    let z : callStatus s m c ≡ 0 = eqb-true (callStatus s m c) 0 e in
-    rw (k .0, k .1, history-accepted s m b c e)
-    (sound-call s m b c o z (good-call s m c (o .good) z) (same-call s m b c (callValue s m c) (o .good) (o .same) z)))
-    (λ e. let k = refused s m c e in rw (k .0, k .1, history-refused s m b c e) o)
-
--- ---- one call, lent a memory of other lengths: it is refused by 1, and nothing changes
-
-module _ (s : State) (m : Memory) (u : fits s m ≡ false) where
-  unfit-admit : (t rest : ℕ) → admit s m t rest ≡ 1
+-- lent a memory of other lengths: it is refused by 1, or shows no part, and nothing changes
+module _ (s : State) (m n : Memory) (u : fits s n ≡ false) where
+  unfit-admit : (t rest : ℕ) → admit s n t rest ≡ 1
   unfolding admit
-  unfit-admit t rest = hit (not (fits s m)) 1 _ (ap not u)
+  unfit-admit t rest = hit (not (fits s n)) 1 _ (ap not u)
 
-  unfit-start : (t p : ℕ) → startStatus s m t p ≡ 1
+  unfit-start : (t p : ℕ) → startStatus s n t p ≡ 1
   unfolding startStatus
-  unfit-start t p = hit (not (fits s m)) 1 _ (ap not u)
+  unfit-start t p = hit (not (fits s n)) 1 _ (ap not u)
 
-  pub unfit-use : (t p rest : ℕ) → useStatus s m t p rest ≡ 1
+  unfit-use : (t p rest : ℕ) → useStatus s n t p rest ≡ 1
   unfolding useStatus
   unfit-use t p rest = unfit-admit t _
 
-  -- "1: lengths are not those of set-up", before every other refusal
-  pub unfit : (b : History) (c : Call) → (outcomeOf s m c .state ≡ s) × (outcomeOf s m c .memory ≡ m) × (historyLine b (lineOf s m c) ≡ b)
-  unfit b c = by c
-    where
-      by-1 : (d : Call) → callStatus s m d ≡ 1 → (outcomeOf s m d .state ≡ s) × (outcomeOf s m d .memory ≡ m) × (historyLine b (lineOf s m d) ≡ b)
-      by-1 d e =
-          let f : eqb (callStatus s m d) 0 ≡ false = ne-eqb (callStatus s m d) 0 (λ z. omega arith) in
-          (refused s m d f .0, refused s m d f .1, history-refused s m b d f)
+  by-1 : (c : Call) → callStatus s n c ≡ 1 → Transition s m (lineOf s n c) (outcomeOf s n c .state) m
+  unfolding outcomeOf
+  by-1 c e = rw e (inr record { state = refl; memory = refl; status = λ z. omega arith; number = inr refl })
 
-      by : (d : Call) → (outcomeOf s m d .state ≡ s) × (outcomeOf s m d .memory ≡ m) × (historyLine b (lineOf s m d) ≡ b)
-      by (start t p) = by-1 (start t p) (unfit-start t p)
-      by (end t) = by-1 (end t) (unfold endStatus in unfit-admit t _)
-      by (make t q r) = by-1 (make t q r) (unfold makeStatus in unfit-admit t _)
-      by (enter t q) = by-1 (enter t q) (unfold enterStatus in unfit-admit t _)
-      by (exit t) = by-1 (exit t) (unfold exitStatus in unfit-admit t _)
-      by (allocate t q r) = by-1 (allocate t q r) (unfold allocateStatus in unfit-admit t _)
-      by (store t p q r) = by-1 (store t p q r) (unfold storeStatus slotStatus in unfit-use t p _)
-      by (load t p q) = by-1 (load t p q) (unfold loadStatus slotStatus in unfit-use t p _)
-      by (write t p q r) = by-1 (write t p q r) (unfold dataStatus in unfit-use t p _)
-      by (read t p q) = by-1 (read t p q) (unfold dataStatus in unfit-use t p _)
-      by (view t p) = (accepted s m (view t p) refl .0, accepted s m (view t p) refl .1, history-accepted s m b (view t p) refl)
-      by (viewed t p) = by-1 (viewed t p) (unfold viewStatus in unfit-use t p _)
+  -- "1: lengths are not those of set-up", before every other refusal
+  pub unfit : (c : Call) → Transition s m (lineOf s n c) (outcomeOf s n c .state) m
+  unfit (start t p) = by-1 (start t p) (unfit-start t p)
+  unfit (end t) = by-1 (end t) (unfold endStatus in unfit-admit t _)
+  unfit (make t q r) = by-1 (make t q r) (unfold makeStatus in unfit-admit t _)
+  unfit (enter t q) = by-1 (enter t q) (unfold enterStatus in unfit-admit t _)
+  unfit (exit t) = by-1 (exit t) (unfold exitStatus in unfit-admit t _)
+  unfit (allocate t q r) = by-1 (allocate t q r) (unfold allocateStatus in unfit-admit t _)
+  unfit (store t p q r) = by-1 (store t p q r) (unfold storeStatus slotStatus in unfit-use t p _)
+  unfit (load t p q) = by-1 (load t p q) (unfold loadStatus slotStatus in unfit-use t p _)
+  unfit (write t p q r) = by-1 (write t p q r) (unfold dataStatus in unfit-use t p _)
+  unfit (read t p q) = by-1 (read t p q) (unfold dataStatus in unfit-use t p _)
+  unfit (view t p) = unfold outcomeOf in inl record { passed = refl; state = refl; memory = refl; status = refl; value = refl }
+  unfit (viewed t p) = by-1 (viewed t p) (unfold viewStatus in unfit-use t p _)
+
+-- lent the kept memory, or one of other lengths, which is not kept
+pub step-transition : (s : State) (m n : Memory) → fits s m ≡ true → (n ≡ m) ⊎ (fits s n ≡ false) → (c : Call)
+    → Transition s m (lineOf s n c) (outcomeOf s n c .state) (pick (fits s n) (outcomeOf s n c .memory) m)
+step-transition s m n f d c = ⊎-elim
+    (λ (q : n ≡ m). rw (q, f) (transition s m c))
+    (λ u. rw u (unfit s m n u c))
+    d

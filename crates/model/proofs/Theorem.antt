@@ -1,31 +1,30 @@
--- The third demand: after every list of calls, from every accepted set-up, each claim of specs/Claims.antt holds.
+-- After every list of calls, from every accepted set-up, each claim of specs/Claims.antt holds: the third demand, and what calls yield.
 -- Assumes nothing.
 use Prim.Native.Nat.{ℕ, suc, _+_, _<_}
 use mathlib.Core.Bool.{true, false}
 use mathlib.Core.List.{List, [], _∷_}
-use mathlib.Core.Path.{_≡_, refl, sym, _∙_}
-use mathlib.Core.Logic.{_≢_, _⊎_, inl, inr, ⊎-elim}
-use lib.Dec.{eqb}
-use native.Mathlib.Omega.{arith}
+use mathlib.Core.Path.{_≡_, refl}
+use mathlib.Core.Logic.{_⊎_, inl, inr, ⊎-elim}
 use Rattle.layout.specs.Choice.{cases}
 use Rattle.layout.specs.Handle.{offsetOf, areaOf}
 use Rattle.model.specs.State.{Memory, wordAt}
 use Rattle.model.specs.SetUp.{lengthsOf, setUpStatus}
 use Rattle.model.specs.Checks.{fits, live}
-use Rattle.model.specs.References.{slotStatus, loadStatus}
-use Rattle.model.specs.Calls.{load, outcomeOf}
 use Rattle.model.specs.Run.{Supplied, kept, other, Element, Line, World, suppliedTo, step, run, begin}
 use Rattle.model.specs.History.{Object, History, blank, occurrences, handles, historyOf}
-use Rattle.model.specs.Claims.{In, Among, Since, made, stays, Names, IsLoad, On, Claims}
+use Rattle.model.specs.Claims.{In, Among, Since, made, stays, Names, Claims}
 use Rattle.model.proofs.Sound.{Sound}
 use Rattle.model.proofs.Keeps.{good-first}
 use Rattle.model.proofs.Agrees.{same-first}
 use Rattle.model.proofs.NestingClaims.{started, stacks, opens, parents, displays, dropped, order, looks, walked, scanned}
 use Rattle.model.proofs.Live.{live-given, given-live, dead-not}
 use Rattle.model.proofs.KeepsMemory.{sound-first}
-use Rattle.model.proofs.MemoryClaims.{one-object, slot-holds, no-15, given-in, in-given}
-use Rattle.model.proofs.Outcomes.{accepted, refused, lineOf, sound-line, unfit, unfit-use}
-use Rattle.model.proofs.Traces.{none-in, on-or, none-on, born, gone-run, among-some, area-below, open-area}
+use Rattle.model.proofs.MemoryClaims.{one-object, slot-holds, given-in, in-given}
+use Rattle.model.proofs.Outcomes.{Transition, sound-line, lineOf, step-transition}
+use Rattle.model.proofs.Traces.{none-in, born, gone-run, among-some, area-below, open-area}
+use Rattle.model.proofs.Openings.{Opened, opened-first, opened-line}
+use Rattle.model.proofs.Stored.{Stored, stored-line}
+use Rattle.model.proofs.Answers.{AllAnswer, line-answers, each-answers}
 
 -- ---- one element of the list
 
@@ -33,9 +32,16 @@ use Rattle.model.proofs.Traces.{none-in, on-or, none-on, born, gone-run
 abbrev Holds : World → Type 0
 Holds w = Sound (w .state) (w .memory) (historyOf (w .trace))
 
-module _ (w : World) (e : Element) (o : Holds w) where
+module _ (w : World) (e : Element) where
   abbrev supplied : Memory
   supplied = suppliedTo (w .state) (w .memory) (e .supplied)
+
+  abbrev line : Line
+  line = lineOf (w .state) supplied (e .call)
+
+  trace-is : step w e .trace ≡ line ∷ w .trace
+  unfolding step
+  trace-is = refl
 
   -- what is lent is the kept memory, or has other lengths
   supplied-is : (l : Supplied) → (suppliedTo (w .state) (w .memory) l ≡ w .memory) ⊎ (fits (w .state) (suppliedTo (w .state) (w .memory) l) ≡ false)
@@ -44,49 +50,26 @@ module _ (w : World) (e : Element) (o : Holds w) where
       (λ t. inl (rw t))
       (λ f. inr (rw f f))
 
-  step-fit : supplied ≡ w .memory → Holds (step w e)
-  unfolding step historyOf
-  step-fit q = rw (q, o .supplied) (sound-line (w .state) (w .memory) (historyOf (w .trace)) (e .call) o)
+  step-is : Holds w → Transition (w .state) (w .memory) line (step w e .state) (step w e .memory)
+  unfolding step
+  step-is o = step-transition (w .state) (w .memory) supplied (o .supplied) (supplied-is (e .supplied)) (e .call)
 
-  step-unfit : fits (w .state) supplied ≡ false → Holds (step w e)
-  unfolding step historyOf
-  step-unfit f =
-      let k = unfit (w .state) supplied f (historyOf (w .trace)) (e .call) in
-      rw (f, k .0, k .2) o
-
-  pub step-holds : Holds (step w e)
-  step-holds = ⊎-elim step-fit step-unfit (supplied-is (e .supplied))
+  step-holds : Holds w → Holds (step w e)
+  unfolding historyOf
+  step-holds o = rw trace-is (sound-line (historyOf (w .trace)) o (step-is o))
 
 -- ---- the invariant of a world, and its trace
 
 pub record Told (w : World) : Type 0 where
   pub holds : Holds w
   pub since : (a : ℕ) (x : Object) → In x (historyOf (w .trace) .objects a) → Since (x .handle) a (w .trace)
-  pub loads : (l : Line) → On l (w .trace) → IsLoad l → l .reply .status ≢ 15
-
--- a load is not refused by 15, whatever it is lent
-load-not-15 : (w : World) (e : Element) → Holds w → (t p q : ℕ) → e .call ≡ load t p q
-    → outcomeOf (w .state) (suppliedTo (w .state) (w .memory) (e .supplied)) (load t p q) .reply .status ≢ 15
-load-not-15 w e o t p q c = ⊎-elim
-    (λ k. rw k (fit (w .memory) (no-15 (w .state) (w .memory) (historyOf (w .trace)) o t p q)))
-    (λ u. fit (suppliedTo (w .state) (w .memory) (e .supplied)) (λ z. omega (arith, by-1 u)))
-    (supplied-is w e o (e .supplied))
-  where
-    fit : (m : Memory) → loadStatus (w .state) m t p q ≢ 15 → outcomeOf (w .state) m (load t p q) .reply .status ≢ 15
-    fit m n z = cases (eqb (loadStatus (w .state) m t p q) 0)
-        (λ k. omega (arith, accepted (w .state) m (load t p q) k .2))
-        (λ k. n (sym (refused (w .state) m (load t p q) k .2) ∙ z))
-
-    by-1 : fits (w .state) (suppliedTo (w .state) (w .memory) (e .supplied)) ≡ false → loadStatus (w .state) (suppliedTo (w .state) (w .memory) (e .supplied)) t p q ≡ 1
-    by-1 u = unfold loadStatus slotStatus in unfit-use (w .state) (suppliedTo (w .state) (w .memory) (e .supplied)) u t p _
+  pub stored : Stored (w .state) (w .memory) (w .trace)
+  pub opened : Opened (w .state) (w .trace)
+  pub answers : AllAnswer (w .trace)
 
 module _ (w : World) (e : Element) (o : Told w) where
-  abbrev line : Line
-  line = lineOf (w .state) (suppliedTo (w .state) (w .memory) (e .supplied)) (e .call)
-
-  trace-is : step w e .trace ≡ line ∷ w .trace
-  unfolding step
-  trace-is = refl
+  leads : Transition (w .state) (w .memory) (line w e) (step w e .state) (step w e .memory)
+  leads = step-is w e (o .holds)
 
   now : Holds (step w e)
   now = step-holds w e (o .holds)
@@ -95,20 +78,16 @@ module _ (w : World) (e : Element) (o : Told w) where
   step-since a x i = rw trace-is (⊎-elim
       (λ k. stays (o .since a x k) (λ h. rw trace-is at (open-area (step w e .state) (step w e .memory) (historyOf (step w e .trace)) now a x i h)))
       (λ k. made k)
-      (born (historyOf (w .trace)) line a x (unfold historyOf in (rw trace-is at i))))
-
-  step-loads : (l : Line) → On l (step w e .trace) → IsLoad l → l .reply .status ≢ 15
-  step-loads l i k = ⊎-elim
-      (λ z. rw z (newest (rw z at k)))
-      (λ z. o .loads l z k)
-      (on-or (rw trace-is at i) line (w .trace) refl)
-    where
-      newest : IsLoad line → line .reply .status ≢ 15
-      newest n =
-          rw (n .call) (load-not-15 w e (o .holds) (n .thread) (n .object) (n .slot) (n .call))
+      (born (historyOf (w .trace)) (line w e) a x (unfold historyOf in (rw trace-is at i))))
 
   pub step-told : Told (step w e)
-  step-told = record { holds = now; since = step-since; loads = step-loads }
+  step-told = record {
+    holds = now;
+    since = step-since;
+    stored = rw trace-is (stored-line (w .state) (w .memory) (w .trace) (o .holds) (o .stored) leads (rw trace-is at now));
+    opened = rw trace-is (opened-line (w .state) (w .memory) (w .trace) (o .holds) (o .opened) leads);
+    answers = rw trace-is (line-answers (w .state) (w .memory) (w .trace) (o .holds) (o .stored) (o .opened) leads, o .answers);
+  }
 
 run-told : (w : World) (es : List Element) → Told w → Told (run w es)
 unfolding run
@@ -120,7 +99,9 @@ unfolding begin historyOf blank
 begin-told h i m e = record {
   holds = sound-first h i m e (good-first h i (lengthsOf m) e) (same-first h i (lengthsOf m));
   since = λ a x k. absurd (none-in k);
-  loads = λ l k. absurd (none-on k);
+  stored = λ a x k. absurd (none-in k);
+  opened = opened-first h i (lengthsOf m);
+  answers = tt;
 }
 
 -- ---- the claims
@@ -169,7 +150,10 @@ module _ (w : World) (o : Told w) where
     looks = looks (w .state) b (sound .good) (sound .same);
     walked = walked (w .state) b (sound .good) (sound .same);
     scanned = scanned (w .state) b (sound .good) (sound .same);
-    loads = o .loads;
+    loads = λ l before i. each-answers i (o .answers) .loads;
+    loaded = λ l before i. each-answers i (o .answers) .loaded;
+    entries = λ l before i. each-answers i (o .answers) .entries;
+    exits = λ l before i. each-answers i (o .answers) .exits;
   }
 
 -- the one theorem: from an accepted set-up, with any contents of the lent words, after every list of calls

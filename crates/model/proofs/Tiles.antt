@@ -89,18 +89,29 @@ tiled-at wd bit ok mk (o ∷ os) n p z h e =
         (λ d. rw (occ-other (mk p) (o .handle) (handles os) (eqb-false (o .handle) (mk p) d)) q)
 
 -- an object of the list, with its tile
-pub tiled-has : (wd : ℕ → ℕ) (bit : ℕ → Bool) (ok : ℕ → Type 0) (mk : ℕ → ℕ) (os : List Object) (n : ℕ) (h : ℕ)
-    → Tiled wd bit ok mk os n → 0 < occurrences h (handles os) → (o : Object) × (m : ℕ) × (o .handle ≡ h) × Tile wd bit ok mk o m × (m ≤ n)
+pub tiled-in : {wd : ℕ → ℕ} {bit : ℕ → Bool} {ok : ℕ → Type 0} {mk : ℕ → ℕ} {o : Object} {os : List Object} (n : ℕ)
+    → In o os → Tiled wd bit ok mk os n → (m : ℕ) × Tile wd bit ok mk o m × (m ≤ n)
+tiled-in n first z = (n, z .0, omega arith)
+tiled-in {wd} {bit} {ok} {mk} {o} n (later {x = x} i) z =
+    let r : (m : ℕ) × Tile wd bit ok mk o m × (m ≤ place x) = tiled-in (place x) i (z .1) in
+    (r .0, r .1, omega (arith, r .2, z .0 .ends))
+
+-- what has handle h
+pub handles-in : (h : ℕ) (os : List Object) → 0 < occurrences h (handles os) → (o : Object) × In o os × (o .handle ≡ h)
 unfolding occurrences
-tiled-has wd bit ok mk [] n h z p = absurd (omega arith)
-tiled-has wd bit ok mk (o ∷ os) n h z p =
-    cases
-    (eqb (o .handle) h)
-    (λ d. (o, n, eqb-true (o .handle) h d, z .0, omega arith))
-    (λ d.
-    let r : (x : Object) × (m : ℕ) × (x .handle ≡ h) × Tile wd bit ok mk x m × (m ≤ place o)
-    = tiled-has wd bit ok mk os (place o) h (z .1) (rw (occ-other h (o .handle) (handles os) (eqb-false (o .handle) h d)) at p) in
-    (r .0, r .1, r .2, r .3, omega (arith, z .0 .ends, r .4)))
+handles-in h [] p = absurd (omega arith)
+handles-in h (y ∷ os) p = cases (eqb (y .handle) h)
+    (λ e. (y, first, eqb-true (y .handle) h e))
+    (λ e.
+    let z : (o : Object) × In o os × (o .handle ≡ h) = handles-in h os (rw (occ-other h (y .handle) (handles os) (eqb-false (y .handle) h e)) at p) in
+    (z .0, later (z .1), z .2))
+
+pub tiled-has : (wd : ℕ → ℕ) (bit : ℕ → Bool) (ok : ℕ → Type 0) (mk : ℕ → ℕ) (os : List Object) (n : ℕ) (h : ℕ)
+    → Tiled wd bit ok mk os n → 0 < occurrences h (handles os) → (o : Object) × (m : ℕ) × (o .handle ≡ h) × Tile wd bit ok mk o m × (m ≤ n) × In o os
+tiled-has wd bit ok mk os n h z p =
+    let k : (o : Object) × In o os × (o .handle ≡ h) = handles-in h os p in
+    let t : (m : ℕ) × Tile wd bit ok mk (k .0) m × (m ≤ n) = tiled-in n (k .1) z in
+    (k .0, t .0, k .2, t .1, t .2, k .1)
 
 -- a word at p is replaced, which is a data word of the object with handle h
 pub tiled-data : (wd wd′ : ℕ → ℕ) (bit : ℕ → Bool) (ok : ℕ → Type 0) (mk : ℕ → ℕ) (p h : ℕ)
@@ -121,7 +132,7 @@ tiled-data wd wd′ bit ok mk p h d (o ∷ os) n y f q z =
   where
     below : 0 < occurrences h (handles os) → p < place o
     below r =
-        let u : (x : Object) × (m : ℕ) × (x .handle ≡ h) × Tile wd bit ok mk x m × (m ≤ place o) = tiled-has wd bit ok mk os (place o) h (z .1) r in
+        let u : (x : Object) × (m : ℕ) × (x .handle ≡ h) × Tile wd bit ok mk x m × (m ≤ place o) × In x os = tiled-has wd bit ok mk os (place o) h (z .1) r in
         omega (arith, d (u .0) (u .2) (u .3 .head) (omega (arith, u .3 .ends, u .4, z .0 .ends)) .1, u .3 .ends, u .4)
 
     tile : (place o ≢ p) → ((j : ℕ) → j < o .slots → suc (place o + j) ≢ p) → Tile wd′ bit ok mk o n
@@ -142,25 +153,25 @@ pub tiled-push : (wd wd′ : ℕ → ℕ) (bit bit′ : ℕ → Bool) (ok ok′ 
 tiled-push wd wd′ bit bit′ ok ok′ mk os n o f g k e t z =
     (t, rw e (tiled-frame wd wd′ bit bit′ ok ok′ mk os n f g k z))
 
-pub tiled-in : {wd : ℕ → ℕ} {bit : ℕ → Bool} {ok : ℕ → Type 0} {mk : ℕ → ℕ} {o : Object} {os : List Object} (n : ℕ)
-    → In o os → Tiled wd bit ok mk os n → (m : ℕ) × Tile wd bit ok mk o m × (m ≤ n)
-tiled-in n first z = (n, z .0, omega arith)
-tiled-in {wd} {bit} {ok} {mk} {o} n (later {x = x} i) z =
-    let r : (m : ℕ) × Tile wd bit ok mk o m × (m ≤ place x) = tiled-in (place x) i (z .1) in
-    (r .0, r .1, omega (arith, r .2, z .0 .ends))
-
--- an object starts below the one that was made after it, so no two have one handle
+-- an object ends below the one that was made after it, so two that share a word are one
 module _ (wd : ℕ → ℕ) (bit : ℕ → Bool) (ok : ℕ → Type 0) (mk : ℕ → ℕ) where
-  below-newer : {o : Object} {os : List Object} (x : Object) → In o os → Tiled wd bit ok mk os (place x) → place o < place x
+  below-newer : {o : Object} {os : List Object} (x : Object) → In o os → Tiled wd bit ok mk os (place x) → place o + o .slots + o .words < place x
   below-newer {o} x i z =
       let t : (m : ℕ) × Tile wd bit ok mk o m × (m ≤ place x) = tiled-in (place x) i z in
       omega (arith, t .1 .ends, t .2)
 
+  pub tiled-apart : {o p : Object} {os : List Object} (n : ℕ) → In o os → In p os → Tiled wd bit ok mk os n
+      → (k : ℕ) → place o ≤ k → k ≤ place o + o .slots + o .words → place p ≤ k → k ≤ place p + p .slots + p .words → o ≡ p
+  tiled-apart n first first z k a b c d = refl
+  tiled-apart {o} n first (later j) z k a b c d = absurd (omega (arith, below-newer o j (z .1)))
+  tiled-apart {p = p} n (later i) first z k a b c d = absurd (omega (arith, below-newer p i (z .1)))
+  tiled-apart n (later {x = x} i) (later j) z k a b c d = tiled-apart (place x) i j (z .1) k a b c d
+
+  -- and so are two with one handle
   pub tiled-one : {o p : Object} {os : List Object} (n : ℕ) → In o os → In p os → Tiled wd bit ok mk os n → o .handle ≡ p .handle → o ≡ p
-  tiled-one n first first z e = refl
-  tiled-one {o} n first (later j) z e = absurd (omega (arith, below-newer o j (z .1), ap offsetOf e))
-  tiled-one {p = p} n (later i) first z e = absurd (omega (arith, below-newer p i (z .1), ap offsetOf e))
-  tiled-one n (later {x = x} i) (later j) z e = tiled-one (place x) i j (z .1) e
+  tiled-one {o} {p} n i j z e =
+      let at : place o ≡ place p = ap offsetOf e in
+      tiled-apart n i j z (place o) (omega arith) (omega arith) (omega arith) (omega arith)
 
 pub in-some : {o : Object} {os : List Object} → In o os → 0 < length os
 in-some first = omega arith

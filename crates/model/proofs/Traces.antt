@@ -6,7 +6,7 @@ use mathlib.Core.List.{List, [], _∷_, _++_}
 use mathlib.Core.Path.{_≡_, refl, sym, ap}
 use mathlib.Core.Logic.{_⊎_, inl, inr, ⊎-elim}
 use lib.Dec.{eqb, ltb}
-use lib.ListN.{length, set}
+use lib.ListN.{set}
 use native.Mathlib.Omega.{arith}
 use borrow.Author.Tests.{eqb-true, eqb-false, ltb-true, ltb-false}
 use Rattle.layout.specs.Choice.{cases}
@@ -14,7 +14,7 @@ use Rattle.model.specs.State.{State, Memory, current, isOpen}
 use Rattle.model.specs.Calls.{Call, start, end, make, enter, exit, allocate, store, load, write, read, view, viewed}
 use Rattle.model.specs.Run.{Element, Line, World, step, run}
 use Rattle.model.specs.History.{Object, History, rowOf, putAt, below, occurrences, handles, isScopeOnNone, historyStart, historyEnter, historyExit, historyAllocate, historyStep, historyLine, historyOf}
-use Rattle.model.specs.Claims.{Open, In, Among, Allocates, On}
+use Rattle.model.specs.Claims.{Open, In, Among, Allocates}
 use Rattle.model.specs.Invariant.{countIn}
 use Rattle.model.proofs.Lists.{occ-same, occ-other}
 use Rattle.model.proofs.Memory.{put-same, put-other}
@@ -40,39 +40,37 @@ top-or : {x : Object} {k : List Object} → In x k → (y : Object) (l : List Ob
 top-or In.first y l e = inl (cc)
 top-or {x} (In.later {l = k} i) y l e = let z : k ≡ l = cc in inr (rw z at i)
 
-pub on-or : {x : Line} {k : List Line} → On x k → (y : Line) (l : List Line) → k ≡ y ∷ l → (x ≡ y) ⊎ On x l
-on-or On.first y l e = inl (cc)
-on-or {x} (On.later {ls = k} i) y l e = let z : k ≡ l = cc in inr (rw z at i)
+-- an exit makes no object
+pub exit-kept : (b : History) (t a : ℕ) (x : Object) → In x (historyExit b t .objects a) → In x (b .objects a)
+unfolding historyExit
+exit-kept b t a x i =
+    cases (isScopeOnNone (current (rowOf b t)) (set (b .rows) t (below (rowOf b t))))
+    (λ e. ⊎-elim (λ k. absurd (none-in (k .0))) (λ k. k) (put-in (b .objects) (current (rowOf b t)) [] a x (rw e at i)))
+    (λ e. rw e at i)
 
-on-some : {x : Line} {k : List Line} → On x k → 0 < length k
-on-some On.first = omega arith
-on-some (On.later i) = omega (arith, on-some i)
+-- an allocation makes one, in the area of the row's top
+pub made-or : (b : History) (t : ℕ) (o : Object) (a : ℕ) (x : Object) → In x (historyAllocate b t o .objects a)
+    → ((a ≡ current (rowOf b t)) × (x ≡ o)) ⊎ In x (b .objects a)
+unfolding historyAllocate
+made-or b t o a x i = ⊎-elim
+    (λ k. ⊎-elim (λ z. inl (k .1, z)) (λ z. inr (rw (← (k .1)) at z)) (top-or (k .0) o (b .objects (current (rowOf b t))) refl))
+    (λ k. inr k)
+    (put-in (b .objects) (current (rowOf b t)) (o ∷ b .objects (current (rowOf b t))) a x i)
 
-pub none-on : {x : Line} → On x [] → ⊥
-none-on i = omega (arith, on-some i)
+pub made-in : (b : History) (t : ℕ) (o : Object) → In o (historyAllocate b t o .objects (current (rowOf b t)))
+unfolding historyAllocate
+made-in b t o = rw (put-same (b .objects) (current (rowOf b t)) (o ∷ b .objects (current (rowOf b t)))) In.first
 
 module _ (b : History) (l : Line) (ok : l .reply .status ≡ 0) (a : ℕ) (x : Object) where
   abbrev Born : Type 0
   Born = In x (b .objects a) ⊎ Allocates b l (x .handle) a
 
-  born-exit : (t : ℕ) → In x (historyExit b t .objects a) → Born
-  unfolding historyExit
-  born-exit t i =
-      cases (isScopeOnNone (current (rowOf b t)) (set (b .rows) t (below (rowOf b t))))
-      (λ e. ⊎-elim (λ k. absurd (none-in (k .0))) (λ k. inl k) (put-in (b .objects) (current (rowOf b t)) [] a x (rw e at i)))
-      (λ e. inl (rw e at i))
-
   born-allocate : (t q r : ℕ) → l .call ≡ allocate t q r
       → In x (historyAllocate b t (record { handle = l .reply .value; slots = q; words = r }) .objects a) → Born
-  unfolding historyAllocate
-  born-allocate t q r e i =
-      ⊎-elim
-      (λ k. ⊎-elim
-      (λ z. inr (record { thread = t; slots = q; words = r; call = e; accepted = ok; gave = sym (ap (λ (y : Object). y .handle) z); area = sym (k .1) }))
-      (λ z. inl (rw (← (k .1)) at z))
-      (top-or (k .0) _ _ refl))
+  born-allocate t q r e i = ⊎-elim
+      (λ k. inr (record { thread = t; slots = q; words = r; call = e; accepted = ok; gave = sym (ap (λ (y : Object). y .handle) (k .1)); area = sym (k .0) }))
       (λ k. inl k)
-      (put-in (b .objects) (current (rowOf b t)) (record { handle = l .reply .value; slots = q; words = r } ∷ b .objects (current (rowOf b t))) a x i)
+      (made-or b t (record { handle = l .reply .value; slots = q; words = r }) a x i)
 
   -- an object of the book has been there, or the line made it
   born-step : (c : Call) → l .call ≡ c → In x (historyStep b c (l .reply .value) .objects a) → Born
@@ -81,7 +79,7 @@ module _ (b : History) (l : Line) (ok : l .reply .status ≡ 0) (a : ℕ) (x : O
   born-step (end t) e i = inl i
   born-step (make t q r) e i = inl i
   born-step (enter t q) e i = inl i
-  born-step (exit t) e i = born-exit t i
+  born-step (exit t) e i = inl (exit-kept b t a x i)
   born-step (allocate t q r) e i = born-allocate t q r e i
   born-step (store t p q r) e i = inl i
   born-step (load t p q) e i = inl i

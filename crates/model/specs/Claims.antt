@@ -1,4 +1,4 @@
--- What is claimed after every list of calls: the third demand, each claim a field of one record.
+-- What is claimed after every list of calls: the third demand, and the values of loads, entries and exits. Each claim is a field of one record.
 -- Assumes nothing.
 use Prim.Native.Nat.{ℕ, suc, _+_, _≤_, _<_}
 use mathlib.Core.Bool.{Bool, true, false}
@@ -10,9 +10,10 @@ use Rattle.layout.specs.Choice.{pick}
 use Rattle.layout.specs.Handle.{null, offsetOf}
 use Rattle.model.specs.State.{areaAt, stackAt, current, isOpen, displayAt, displayHolds, wordAt}
 use Rattle.model.specs.Checks.{isStarted, live}
-use Rattle.model.specs.Calls.{allocate, load}
+use Rattle.model.specs.Calls.{enter, exit, allocate, load}
 use Rattle.model.specs.Run.{Element, Line, World, run}
 use Rattle.model.specs.History.{Object, History, rowOf, occurrences, total, historyOf}
+use Rattle.model.specs.Values.{lastStored, entryGeneration, entriesLeft}
 
 -- ---- the words of the claims
 
@@ -80,17 +81,10 @@ pub record Names (b : History) (ls : List Line) (x : ℕ) : Type 0 where
   pub handle : object .handle ≡ x
   pub since : Since x area ls
 
--- the line of a load, op 08
-pub record IsLoad (l : Line) : Type 0 where
-  pub thread : ℕ
-  pub object : ℕ
-  pub slot : ℕ
-  pub call : l .call ≡ load thread object slot
-
--- a line of the trace
-pub data On (l : Line) : List Line → Type 0 where
-  first : {ls : List Line} → On l (l ∷ ls)
-  later : {k : Line} {ls : List Line} → On l ls → On l (k ∷ ls)
+-- a line of the trace, and the lines before it
+pub data Follows (l : Line) (before : List Line) : List Line → Type 0 where
+  newest : Follows l before (l ∷ before)
+  older : {k : Line} {ls : List Line} → Follows l before ls → Follows l before (k ∷ ls)
 
 -- ---- the claims
 
@@ -124,4 +118,14 @@ pub record Claims (w : World) (b : History) : Type 0 where
   pub scanned : (t a c : ℕ) → 2 ≤ a → 2 ≤ c → 0 < occurrences a (rowOf b t) → 0 < occurrences c (rowOf b t)
       → displayHolds (w .state) a c ≡ scan a c (rowOf b t)
   -- 7. "No op 08 in it yields 15."
-  pub loads : (l : Line) → On l (w .trace) → IsLoad l → l .reply .status ≢ 15
+  pub loads : (l : Line) (before : List Line) → Follows l before (w .trace) → (t p q : ℕ) → l .call ≡ load t p q → l .reply .status ≢ 15
+  -- 8. The values, by the lines before. A load gives the word last stored in that slot since the object was made, null if none.
+  pub loaded : (l : Line) (before : List Line) → Follows l before (w .trace) → (t p q : ℕ) → l .call ≡ load t p q
+      → l .reply .status ≡ 0 → l .reply .value ≡ lastStored p q before
+  -- An entry that opens a scope gives one more than its last opening gave, 1 if there was none; another entry of it gives what its opening gave;
+  -- one of heap or immortal gives 1.
+  pub entries : (l : Line) (before : List Line) → Follows l before (w .trace) → (t q : ℕ) → l .call ≡ enter t q
+      → l .reply .status ≡ 0 → l .reply .value ≡ entryGeneration q before
+  -- An exit gives the number of entries of the scope taken off that are left on all rows, 0 for heap and immortal.
+  pub exits : (l : Line) (before : List Line) → Follows l before (w .trace) → (t : ℕ) → l .call ≡ exit t
+      → l .reply .status ≡ 0 → l .reply .value ≡ entriesLeft (historyOf before) t

@@ -1,4 +1,4 @@
--- The machine of document 01, call by call; the book; every list of calls; and what is claimed after each.
+-- The machine of document 01, call by call; every list of calls; the book and the values that it tells; and what is claimed after each.
 pub mod State
 pub mod SetUp
 pub mod Checks
@@ -10,5 +10,6 @@ pub mod Data
 pub mod Calls
 pub mod Run
 pub mod History
+pub mod Values
 pub mod Claims
 pub mod Invariant

@@ -1,0 +1,61 @@
+-- What each line of a trace answers, by the lines before it.
+-- Assumes nothing.
+use Prim.Native.Nat.{ℕ}
+use mathlib.Core.List.{List, [], _∷_}
+use mathlib.Core.Path.{_≡_, sym, ap, _∙_}
+use mathlib.Core.Logic.{_≢_, ⊎-elim}
+use native.Mathlib.Omega.{arith}
+use Rattle.model.specs.State.{State, Memory}
+use Rattle.model.specs.Calls.{Call, enter, exit, load, callStatus, callValue}
+use Rattle.model.specs.Run.{Line}
+use Rattle.model.specs.History.{historyOf}
+use Rattle.model.specs.Values.{lastStored, entryGeneration, entriesLeft}
+use Rattle.model.specs.Claims.{Follows, newest, older}
+use Rattle.model.proofs.Sound.{Sound}
+use Rattle.model.proofs.MemoryClaims.{no-15}
+use Rattle.model.proofs.Outcomes.{Accepts, Transition, accepts}
+use Rattle.model.proofs.Openings.{Opened, entry-value, exit-value}
+use Rattle.model.proofs.Stored.{Stored, load-value}
+
+-- the claims of one line
+pub record Answers (l : Line) (before : List Line) : Type 0 where
+  pub loads : (t p q : ℕ) → l .call ≡ load t p q → l .reply .status ≢ 15
+  pub loaded : (t p q : ℕ) → l .call ≡ load t p q → l .reply .status ≡ 0 → l .reply .value ≡ lastStored p q before
+  pub entries : (t q : ℕ) → l .call ≡ enter t q → l .reply .status ≡ 0 → l .reply .value ≡ entryGeneration q before
+  pub exits : (t : ℕ) → l .call ≡ exit t → l .reply .status ≡ 0 → l .reply .value ≡ entriesLeft (historyOf before) t
+
+module _ (s : State) (m : Memory) (ls : List Line) (o : Sound s m (historyOf ls)) (w : Stored s m ls) (g : Opened s ls)
+    {l : Line} {n : State} {k : Memory} (d : Transition s m l n k) where
+  not-15 : (t p q : ℕ) → l .call ≡ load t p q → l .reply .status ≢ 15
+  not-15 t p q e z = ⊎-elim
+      (λ x. omega (arith, x .status))
+      (λ x. ⊎-elim
+      (λ y. no-15 s m (historyOf ls) o t p q (sym (y ∙ ap (callStatus s m) e) ∙ z))
+      (λ y. omega arith)
+      (x .number))
+      d
+
+  -- an accepted line has the value of its call
+  value-is : (c : Call) → l .call ≡ c → l .reply .status ≡ 0 → (callStatus s m c ≡ 0) × (l .reply .value ≡ callValue s m c)
+  value-is c e z =
+      let x : Accepts s m l n k = accepts d z in
+      rw (← e) (x .passed, x .value)
+
+  pub line-answers : Answers l ls
+  line-answers = record {
+    loads = not-15;
+    loaded = λ t p q e z. let x = value-is (load t p q) e z in x .1 ∙ load-value s m ls o w t p q (x .0);
+    entries = λ t q e z. let x = value-is (enter t q) e z in x .1 ∙ entry-value s m ls o g t q (x .0);
+    exits = λ t e z. let x = value-is (exit t) e z in x .1 ∙ exit-value s m (historyOf ls) o t (x .0);
+  }
+
+-- ---- every line
+
+-- each line of a trace answers by the lines before it
+abbrev pub AllAnswer : List Line → Type 0
+AllAnswer [] = Unit {0}
+AllAnswer (l ∷ ls) = Answers l ls × AllAnswer ls
+
+pub each-answers : {l : Line} {before ls : List Line} → Follows l before ls → AllAnswer ls → Answers l before
+each-answers newest k = k .0
+each-answers (older i) k = each-answers i (k .1)

@@ -1,0 +1,76 @@
+-- What the lines so far say of a value to come: the word that a load gives, the generation that an entry gives, the entries that an exit leaves.
+-- Assumes nothing.
+use Prim.Native.Nat.{ℕ, suc}
+use mathlib.Core.Bool.{_&&_}
+use mathlib.Core.List.{List, [], _∷_}
+use lib.Dec.{eqb}
+use Rattle.layout.specs.Choice.{pick}
+use Rattle.layout.specs.Handle.{null}
+use Rattle.model.specs.State.{current, isScope}
+use Rattle.model.specs.Calls.{Call, start, end, make, enter, exit, allocate, store, load, write, read, view, viewed}
+use Rattle.model.specs.Run.{Line}
+use Rattle.model.specs.History.{History, rowOf, total, isScopeOnNone, historyExit, historyOf}
+
+-- ---- op 08: "value: stored word"
+
+-- slot i of object o holds w, then a call is accepted with value v. "store reference (p object, q slot, r target)" puts r in that slot; an
+-- allocation that gives o makes it anew, "sets slots .. to 0".
+abbrev pub storedStep : ℕ → ℕ → ℕ → Call → ℕ → ℕ
+storedStep o i w (start t p) v = w
+storedStep o i w (end t) v = w
+storedStep o i w (make t q r) v = w
+storedStep o i w (enter t q) v = w
+storedStep o i w (exit t) v = w
+storedStep o i w (allocate t q r) v = pick (eqb v o) null w
+storedStep o i w (store t p q r) v = pick (eqb p o && eqb q i) r w
+storedStep o i w (load t p q) v = w
+storedStep o i w (write t p q r) v = w
+storedStep o i w (read t p q) v = w
+storedStep o i w (view t p) v = w
+storedStep o i w (viewed t p) v = w
+
+-- a refused call changes nothing
+unfoldable pub storedLine : ℕ → ℕ → ℕ → Line → ℕ
+storedLine o i w l = pick (eqb (l .reply .status) 0) (storedStep o i w (l .call) (l .reply .value)) w
+
+-- the word last stored in slot i of object o since it was made, null if none; the newest line is the first
+unfoldable pub lastStored : ℕ → ℕ → List Line → ℕ
+lastStored o i [] = null
+lastStored o i (l ∷ ls) = storedLine o i (lastStored o i ls) l
+
+-- ---- op 04: "value: turn"
+
+-- the last opening of a gave g, then a call is accepted with value v, after the book b: an entry of "a scope on no row" opens it
+abbrev pub openingStep : History → ℕ → ℕ → Call → ℕ → ℕ
+openingStep b a g (start t p) v = g
+openingStep b a g (end t) v = g
+openingStep b a g (make t q r) v = g
+openingStep b a g (enter t q) v = pick (isScopeOnNone q (b .rows) && eqb q a) v g
+openingStep b a g (exit t) v = g
+openingStep b a g (allocate t q r) v = g
+openingStep b a g (store t p q r) v = g
+openingStep b a g (load t p q) v = g
+openingStep b a g (write t p q r) v = g
+openingStep b a g (read t p q) v = g
+openingStep b a g (view t p) v = g
+openingStep b a g (viewed t p) v = g
+
+-- a refused call opens nothing
+unfoldable pub openingLine : History → ℕ → ℕ → Line → ℕ
+openingLine b a g l = pick (eqb (l .reply .status) 0) (openingStep b a g (l .call) (l .reply .value)) g
+
+-- what the last opening of scope a gave, 0 if there was none
+unfoldable pub lastOpening : ℕ → List Line → ℕ
+lastOpening a [] = 0
+lastOpening a (l ∷ ls) = openingLine (historyOf ls) a (lastOpening a ls) l
+
+-- "It sets its turn one higher (first turn 1 ..)" where the entry opens scope q, else it has the turn of its opening; heap and immortal "always
+-- have turn 1"
+unfoldable pub entryGeneration : ℕ → List Line → ℕ
+entryGeneration q ls = pick (isScope q) (pick (eqb (total q (historyOf ls .rows)) 0) (suc (lastOpening q ls)) (lastOpening q ls)) 1
+
+-- ---- op 05: "value: scope's count left, else 0"
+
+-- how many entries of the area that thread t leaves, if it is a scope, are left on all rows
+unfoldable pub entriesLeft : History → ℕ → ℕ
+entriesLeft b t = pick (isScope (current (rowOf b t))) (total (current (rowOf b t)) (historyExit b t .rows)) 0
