@@ -76,8 +76,12 @@ transition s m c = cases (eqb (callStatus s m c) 0)
     (λ e. rw e (inl record { passed = eqb-true (callStatus s m c) 0 e; state = refl; memory = refl; status = refl; value = refl }))
     (λ e. rw e (inr record { state = refl; memory = refl; status = eqb-false (callStatus s m c) 0 e; number = inl refl }))
 
--- lent a memory of other lengths: it is refused by 1, or shows no part, and nothing changes
-module _ (s : State) (m n : Memory) (u : fits s n ≡ false) where
+-- the one call that has no status
+data IsView : Call → Type 0 where
+  is-view : (t p : ℕ) → IsView (view t p)
+
+-- lent a memory of other lengths: it is refused by 1, or is a view, which shows no part; and nothing changes
+module _ (s : State) (n : Memory) (u : fits s n ≡ false) where
   unfit-admit : (t rest : ℕ) → admit s n t rest ≡ 1
   unfolding admit
   unfit-admit t rest = hit (not (fits s n)) 1 _ (ap not u)
@@ -90,29 +94,45 @@ module _ (s : State) (m n : Memory) (u : fits s n ≡ false) where
   unfolding useStatus
   unfit-use t p rest = unfit-admit t _
 
-  by-1 : (c : Call) → callStatus s n c ≡ 1 → Transition s m (lineOf s n c) (outcomeOf s n c .state) m
-  unfolding outcomeOf
-  by-1 c e = rw e (inr record { state = refl; memory = refl; status = λ z. omega arith; number = inr refl })
-
   -- "1: lengths are not those of set-up", before every other refusal
-  pub unfit : (c : Call) → Transition s m (lineOf s n c) (outcomeOf s n c .state) m
-  unfit (start t p) = by-1 (start t p) (unfit-start t p)
-  unfit (end t) = by-1 (end t) (unfold endStatus in unfit-admit t _)
-  unfit (make t q r) = by-1 (make t q r) (unfold makeStatus in unfit-admit t _)
-  unfit (enter t q) = by-1 (enter t q) (unfold enterStatus in unfit-admit t _)
-  unfit (exit t) = by-1 (exit t) (unfold exitStatus in unfit-admit t _)
-  unfit (allocate t q r) = by-1 (allocate t q r) (unfold allocateStatus in unfit-admit t _)
-  unfit (store t p q r) = by-1 (store t p q r) (unfold storeStatus slotStatus in unfit-use t p _)
-  unfit (load t p q) = by-1 (load t p q) (unfold loadStatus slotStatus in unfit-use t p _)
-  unfit (write t p q r) = by-1 (write t p q r) (unfold dataStatus in unfit-use t p _)
-  unfit (read t p q) = by-1 (read t p q) (unfold dataStatus in unfit-use t p _)
-  unfit (view t p) = unfold outcomeOf in inl record { passed = refl; state = refl; memory = refl; status = refl; value = refl }
-  unfit (viewed t p) = by-1 (viewed t p) (unfold viewStatus in unfit-use t p _)
+  unfit-status : (c : Call) → (callStatus s n c ≡ 1) ⊎ IsView c
+  unfit-status (start t p) = inl (unfit-start t p)
+  unfit-status (end t) = inl (unfold endStatus in unfit-admit t _)
+  unfit-status (make t q r) = inl (unfold makeStatus in unfit-admit t _)
+  unfit-status (enter t q) = inl (unfold enterStatus in unfit-admit t _)
+  unfit-status (exit t) = inl (unfold exitStatus in unfit-admit t _)
+  unfit-status (allocate t q r) = inl (unfold allocateStatus in unfit-admit t _)
+  unfit-status (store t p q r) = inl (unfold storeStatus slotStatus in unfit-use t p _)
+  unfit-status (load t p q) = inl (unfold loadStatus slotStatus in unfit-use t p _)
+  unfit-status (write t p q r) = inl (unfold dataStatus in unfit-use t p _)
+  unfit-status (read t p q) = inl (unfold dataStatus in unfit-use t p _)
+  unfit-status (view t p) = inr (is-view t p)
+  unfit-status (viewed t p) = inl (unfold viewStatus in unfit-use t p _)
+
+  -- what it is lent is left as it was
+  pub unfit-memory : (c : Call) → outcomeOf s n c .memory ≡ n
+  unfit-memory c = ⊎-elim by-1 by-view (unfit-status c)
+    where
+      by-1 : callStatus s n c ≡ 1 → outcomeOf s n c .memory ≡ n
+      by-1 e = unfold outcomeOf in rw e refl
+
+      by-view : {d : Call} → IsView d → outcomeOf s n d .memory ≡ n
+      by-view (is-view t p) = unfold outcomeOf in refl
+
+  -- and so is what is kept
+  pub unfit : (m : Memory) (c : Call) → Transition s m (lineOf s n c) (outcomeOf s n c .state) m
+  unfit m c = ⊎-elim by-1 by-view (unfit-status c)
+    where
+      by-1 : callStatus s n c ≡ 1 → Transition s m (lineOf s n c) (outcomeOf s n c .state) m
+      by-1 e = unfold outcomeOf in rw e (inr record { state = refl; memory = refl; status = λ z. omega arith; number = inr refl })
+
+      by-view : {d : Call} → IsView d → Transition s m (lineOf s n d) (outcomeOf s n d .state) m
+      by-view (is-view t p) = unfold outcomeOf in inl record { passed = refl; state = refl; memory = refl; status = refl; value = refl }
 
 -- lent the kept memory, or one of other lengths, which is not kept
 pub step-transition : (s : State) (m n : Memory) → fits s m ≡ true → (n ≡ m) ⊎ (fits s n ≡ false) → (c : Call)
     → Transition s m (lineOf s n c) (outcomeOf s n c .state) (pick (fits s n) (outcomeOf s n c .memory) m)
 step-transition s m n f d c = ⊎-elim
     (λ (q : n ≡ m). rw (q, f) (transition s m c))
-    (λ u. rw u (unfit s m n u c))
+    (λ u. rw u (unfit s n u m c))
     d

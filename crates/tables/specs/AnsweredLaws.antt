@@ -11,8 +11,7 @@ use Rattle.model.specs.State.{State, Memory}
 use Rattle.model.specs.Checks.{fits}
 use Rattle.model.specs.Calls.{Call, callStatus, callMemory, callWords, Reply, outcomeOf}
 use Rattle.model.specs.Run.{kept, other, Element, Line, World, suppliedTo, step}
-use Rattle.model.specs.History.{blank}
-use Rattle.model.proofs.Outcomes.{unfit}
+use Rattle.model.proofs.Outcomes.{unfit-memory}
 use Rattle.tables.specs.Decode.{stateOf}
 use Rattle.tables.specs.Contract.{memoryOf, Ready, Done, Told, Written, plain, Answered}
 
@@ -92,7 +91,7 @@ supplied-step w e n q = rw q refl
 
 -- a call that is lent the kept memory leaves its own, fitting or not
 left-memory : (s : State) (m : Memory) (c : Call) → pick (fits s m) (outcomeOf s m c .memory) m ≡ outcomeOf s m c .memory
-left-memory s m c = cases (fits s m) (λ e. rw e refl) (λ e. rw e (sym (unfit s m e blank c .1)))
+left-memory s m c = cases (fits s m) (λ e. rw e refl) (λ e. rw e (sym (unfit-memory s m e c)))
 
 module _ (w b w′ b′ : List ℕ) (ls : List Line) (c : Call) (r : Reply) where
   -- lent the kept memory
