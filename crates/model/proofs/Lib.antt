@@ -29,4 +29,5 @@ pub mod KeepsMemory
 pub mod MemoryClaims
 pub mod Outcomes
 pub mod Traces
+pub mod Meanings
 pub mod Theorem
