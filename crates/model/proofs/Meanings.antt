@@ -1,20 +1,21 @@
 -- What the words of the claims mean, by laws that a weaker word breaks.
 -- Assumes nothing.
-use Prim.Native.Nat.{ℕ, _≤_, _<_}
+use Prim.Native.Nat.{ℕ, suc, _+_, _≤_, _<_}
 use mathlib.Core.Bool.{Bool, true, false, false≢true}
 use mathlib.Core.List.{List, [], _∷_, _++_}
 use mathlib.Core.Path.{_≡_, refl, sym, ap}
 use mathlib.Core.Logic.{_↔_, _⊎_, inl, inr, ⊎-elim}
 use lib.Dec.{eqb}
-use lib.ListN.{set}
+use lib.ListN.{length, set}
 use native.Mathlib.Omega.{arith}
 use borrow.Author.Tests.{eqb-true, eqb-false, eq-eqb, ne-eqb}
 use Rattle.layout.specs.Choice.{cases}
-use Rattle.model.specs.State.{current}
+use Rattle.layout.specs.Handle.{offsetOf}
+use Rattle.model.specs.State.{State, Memory, areaAt, current, storeOf}
 use Rattle.model.specs.Calls.{Call, start, end, make, enter, exit, allocate, store, load, write, read, view, viewed}
 use Rattle.model.specs.Run.{Line, World}
 use Rattle.model.specs.History.{Object, History, rowOf, putAt, below, occurrences, handles, isScopeOnNone, historyStart, historyEnter, historyExit, historyAllocate, historyStep, historyLine, historyOf}
-use Rattle.model.specs.Claims.{Open, Walk, ends, goes, Meets, here, up, InOrder, none, keep, skip, onRow, scan, In, Among, Allocates, Since, made, stays, Names, Claims}
+use Rattle.model.specs.Claims.{Open, Walk, ends, goes, Meets, here, up, InOrder, none, keep, skip, onRow, scan, In, Among, Within, Allocates, Since, made, stays, Names, Claims}
 use Rattle.model.proofs.Lists.{on-one, occ-le-total, occ-nil, occ-other}
 use Rattle.model.proofs.Memory.{put-same, put-other}
 use Rattle.model.proofs.Traces.{among-some}
@@ -180,6 +181,11 @@ allocates-is {b} {l} {x} {a} k = (
   k .gave,
   rw (k .accepted, k .call, k .area) (put-same (b .objects) a _),
 )
+
+-- every word after the header of an object that lies inside is a word of its store: none reads as 0 because it is not there
+pub word-inside : {s : State} {m : Memory} {a : ℕ} {o : Object} → Within s m a o → (i : ℕ) → i < o .slots + o .words
+    → areaAt s a .start + suc (offsetOf (o .handle) + i) < length (storeOf m a)
+word-inside k i h = omega (arith, k .ends, k .used, k .inside)
 
 among-handles : {o : Object} {l : List Object} → In o l → Among (o .handle) (handles l)
 among-handles In.first = Among.first

@@ -20,10 +20,10 @@ use Rattle.model.specs.Claims.{In, Among, Since, made, stays, Names, IsL
 use Rattle.model.proofs.Sound.{Sound}
 use Rattle.model.proofs.Keeps.{good-first}
 use Rattle.model.proofs.Agrees.{same-first}
-use Rattle.model.proofs.NestingClaims.{started, stacks, opens, parents, displays, dropped, order, looks, walked, scanned}
+use Rattle.model.proofs.NestingClaims.{started, stacks, opens, parents, displays, dropped, threads, scopes, heights, entries, order, looks, walked, scanned}
 use Rattle.model.proofs.Live.{live-given, given-live, dead-not}
 use Rattle.model.proofs.KeepsMemory.{sound-first}
-use Rattle.model.proofs.MemoryClaims.{one-object, slot-holds, no-15, given-in, in-given}
+use Rattle.model.proofs.MemoryClaims.{one-object, slot-holds, within, no-15, given-in, in-given}
 use Rattle.model.proofs.Outcomes.{accepted, refused, lineOf, sound-line, unfit, unfit-use}
 use Rattle.model.proofs.Traces.{none-in, on-or, none-on, born, gone-run, among-some, area-below, open-area}
 
@@ -157,11 +157,16 @@ module _ (w : World) (o : Told w) where
     parents = parents (w .state) b (sound .good) (sound .same);
     displays = displays (w .state) b (sound .good) (sound .same);
     dropped = dropped (w .state) b (sound .good) (sound .same);
+    threads = threads (w .state) b (sound .good) (sound .same);
+    scopes = scopes (w .state) b (sound .good) (sound .same);
+    heights = heights (w .state) b (sound .good) (sound .same);
+    entries = entries (w .state) b (sound .good) (sound .same);
     order = order (w .state) b (sound .good) (sound .same);
     references = λ a x i j h. ⊎-elim
         (λ z. inl z)
         (λ n. inr (given-names (wordAt (w .state) (w .memory) a (suc (offsetOf (x .handle) + j))) (n .given)))
         (slot-holds (w .state) (w .memory) b sound a x i (area-below (w .state) (w .memory) b sound a x i) j h);
+    within = λ a x i. within (w .state) (w .memory) b sound a x (area-below (w .state) (w .memory) b sound a x i) i;
     handles = λ x. (λ e. given-names x (live-given (w .state) (w .memory) b sound x e), names-live x);
     unique = λ a c x y i j e. one-object (w .state) (w .memory) b sound a c x y
         (area-below (w .state) (w .memory) b sound a x i) (area-below (w .state) (w .memory) b sound c y j) i j e;
