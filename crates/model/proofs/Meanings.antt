@@ -1,7 +1,7 @@
 -- What the words of the claims mean, by laws that a weaker word breaks.
 -- Assumes nothing.
 use Prim.Native.Nat.{ℕ, suc, _+_, _≤_, _<_}
-use mathlib.Core.Bool.{Bool, true, false, false≢true}
+use mathlib.Core.Bool.{true, false≢true}
 use mathlib.Core.List.{List, [], _∷_, _++_}
 use mathlib.Core.Path.{_≡_, refl, sym, ap}
 use mathlib.Core.Logic.{_↔_, _⊎_, inl, inr, ⊎-elim}
@@ -14,7 +14,7 @@ use Rattle.layout.specs.Handle.{offsetOf}
 use Rattle.model.specs.State.{State, Memory, areaAt, current, storeOf}
 use Rattle.model.specs.Calls.{Call, start, end, make, enter, exit, allocate, store, load, write, read, view, viewed}
 use Rattle.model.specs.Run.{Line, World}
-use Rattle.model.specs.History.{Object, History, rowOf, putAt, below, occurrences, handles, isScopeOnNone, historyStart, historyEnter, historyExit, historyAllocate, historyStep, historyLine, historyOf}
+use Rattle.model.specs.History.{Object, History, rowOf, below, occurrences, handles, isScopeOnNone, historyStart, historyEnter, historyExit, historyAllocate, historyStep, historyLine, historyOf}
 use Rattle.model.specs.Claims.{Open, Walk, ends, goes, Meets, here, up, InOrder, none, keep, skip, onRow, scan, In, Among, Within, Allocates, Since, made, stays, Names, Claims}
 use Rattle.model.proofs.Lists.{on-one, occ-le-total, occ-nil, occ-other}
 use Rattle.model.proofs.Memory.{put-same, put-other}
