@@ -1,13 +1,14 @@
 -- Samples of values: what each call answers beside its status, what it shows and which words it leaves; and the parts of handles and headers.
 -- Assumes nothing.
 use Prim.Native.Nat.{ℕ}
-use mathlib.Core.List.{List, [], _∷_}
+use mathlib.Core.List.{List, [], _∷_, map}
 use mathlib.Core.Path.{_≡_, refl}
+use lib.ListN.{length}
 use Rattle.layout.specs.Handle.{handleOf, offsetOf, areaOf, generationOf}
 use Rattle.layout.specs.Header.{headerOf, slotsOf, dataOf}
-use Rattle.model.specs.Calls.{start, end, make, enter, exit, allocate, store, load, write, read, view, viewed}
+use Rattle.model.specs.Calls.{Call, start, end, make, enter, exit, allocate, store, load, write, read, view, viewed}
 use Rattle.model.specs.Run.{World}
-use Rattle.model.proofs.SampleRuns.{answer, after, values, copies, first, busy, inHeap, inImmortal, in2, in3}
+use Rattle.model.proofs.SampleRuns.{answer, after, values, each, copies, first, busy, inHeap, inImmortal, in2, in3}
 
 -- ---- areas
 
@@ -101,10 +102,24 @@ pub parts : part written 2 in2 ∷ part written 2 inHeap ∷ part written 2 inIm
 unfolding part written busy after answer
 parts = refl
 
--- "Refusals of this call (1, 2, 13, 5) show a part of length 0": 2, 13 and 5; its own status stays 0
+-- "Refusals of this call (1, 2, 13, 5) show a part of length 0": 2, 13 and 5
 pub no-parts : part written 16 in2 ∷ part written 2 0 ∷ part written 3 inHeap ∷ [] ≡ [] ∷ [] ∷ [] ∷ []
 unfolding part written busy after answer
 no-parts = refl
+
+-- "a call beside it yields the status": the view's own is 0, the other's is 2, 13, 5, and 0 also where there is no data word
+pub part-statuses : each busy (view 16 in2 ∷ view 2 0 ∷ view 3 inHeap ∷ viewed 16 in2 ∷ viewed 2 0 ∷ viewed 3 inHeap ∷ viewed 2 in2 ∷ viewed 2 in3 ∷ [])
+    ≡ 0 ∷ 0 ∷ 0 ∷ 2 ∷ 13 ∷ 5 ∷ 0 ∷ 0 ∷ []
+unfolding each busy
+part-statuses = refl
+
+-- no other call shows a word
+pub no-other-parts : map (λ (c : Call). length (answer busy c .words))
+    (start 4 2 ∷ end 1 ∷ make 2 4 2 ∷ enter 2 0 ∷ exit 2 ∷ allocate 2 0 0
+    ∷ store 2 in2 0 inHeap ∷ load 2 in2 0 ∷ write 2 in2 0 7 ∷ read 2 in2 0 ∷ viewed 2 in2 ∷ [])
+    ≡ copies 11 0
+unfolding busy answer
+no-other-parts = refl
 
 -- ---- handles and headers
 
