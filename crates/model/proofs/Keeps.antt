@@ -50,13 +50,13 @@ module _ (h i : ℕ) (n : Lengths) where
   unfolding setUpStatus
   set-up-ok e =
       let a = peel (not (eqb (h + i) (n .permanent))) 0 _ e in
-      let b = peel (ltb 16384 (n .permanent)) 0 _ (a .1) in
-      let c = peel (ltb 16384 (n .scratch)) 0 _ (b .1) in
+      let b = peel _ 0 _ (a .1) in
+      let c = peel _ 0 _ (b .1) in
       let d = peel (not (eqb (n .map) ((n .permanent + n .scratch + 63) / 64))) 0 0 (c .1) in
       record {
         whole = eqb-true (h + i) (n .permanent) (not-false (eqb (h + i) (n .permanent)) (a .0));
-        permanent = ltb-false 16384 (n .permanent) (b .0);
-        scratch = ltb-false 16384 (n .scratch) (c .0);
+        permanent = omega (arith, ltb-false _ (n .permanent) (b .0));
+        scratch = omega (arith, ltb-false _ (n .scratch) (c .0));
         map = eqb-true (n .map) ((n .permanent + n .scratch + 63) / 64) (not-false (eqb (n .map) ((n .permanent + n .scratch + 63) / 64)) (d .0));
       }
 

@@ -1,6 +1,9 @@
 -- What is proved of the definitions, in the order in which it is built up.
+pub mod SampleRuns
 pub mod Samples
-pub mod FurtherSamples
+pub mod ValueSamples
+pub mod BoundSamples
+pub mod MeetingSamples
 pub mod Accepted
 pub mod Lists
 pub mod Nesting
@@ -29,6 +32,7 @@ pub mod KeepsMemory
 pub mod MemoryClaims
 pub mod Outcomes
 pub mod Traces
+pub mod Meanings
 pub mod ValueMeanings
 pub mod Openings
 pub mod Stored

@@ -15,11 +15,12 @@ use Rattle.model.specs.State.{State, Memory, displayAt, wordAt}
 use Rattle.model.specs.Checks.{fits, isStarted, admit, hasRight, headerAt, live, isObject, isReference, useStatus}
 use Rattle.model.specs.References.{wordAfter, slotStatus, referenceStatus, loadStatus}
 use Rattle.model.specs.History.{Object, History, occurrences, handles}
-use Rattle.model.specs.Claims.{In, first, later}
+use Rattle.model.specs.Claims.{In, first, later, Within}
 use Rattle.model.proofs.Lists.{occ-same}
 use Rattle.model.proofs.Tiles.{Tile, tiled-in, handles-in, tiled-one}
 use Rattle.model.proofs.Memory.{Ok}
 use Rattle.model.proofs.Sound.{usedIn, generationIn, bitIn, Sound}
+use Rattle.model.proofs.PlacedWords.{area-inside, store-length}
 use Rattle.model.proofs.Live.{tile-parts, given-live}
 use Rattle.model.proofs.MemoryWords.{slot-ok}
 
@@ -54,6 +55,17 @@ module _ (s : State) (m : Memory) (b : History) (o : Sound s m b) where
   handle-area a x h i =
       let t = tile-of a x h i in
       tile-parts s m b o a h (t .1) (t .2) .0
+
+  pub within : (a : ℕ) (x : Object) → a < 64 → In x (b .objects a) → Within s m a x
+  within a x h i =
+      let t = tile-of a x h i in
+      record {
+        area = handle-area a x h i;
+        number = h;
+        ends = omega (arith, t .1 .ends, t .2);
+        used = o .good .placed .used a h;
+        inside = rw (store-length s m (o .supplied) a) (area-inside s (o .good .placed) a h);
+      }
 
   pub one-object : (a c : ℕ) (x y : Object) → a < 64 → c < 64 → In x (b .objects a) → In y (b .objects c) → x .handle ≡ y .handle → (a ≡ c) × (x ≡ y)
   one-object a c x y h k i j e =

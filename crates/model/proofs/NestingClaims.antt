@@ -1,7 +1,7 @@
 -- The claims that speak of nesting: started threads, stacks, open scopes, parents, their order, and the verdicts of display, walk and scan.
 -- Assumes nothing.
 use Prim.Native.Nat.{ℕ, suc, _-_, _≤_, _<_}
-use mathlib.Core.Bool.{true, false}
+use mathlib.Core.Bool.{true, false, false≢true}
 use mathlib.Core.List.{List, [], _∷_}
 use mathlib.Core.Path.{_≡_, refl, sym, ap, _∙_, subst}
 use mathlib.Core.Logic.{_↔_}
@@ -14,7 +14,7 @@ use Rattle.display.specs.Display.{rowHolds}
 use Rattle.layout.specs.Stack.{down}
 use Rattle.layout.specs.StackLaws.{length-down}
 use Rattle.model.specs.declared.Area.{Area}
-use Rattle.model.specs.State.{State, noArea, areaAt, rowAt, stackAt, isOpen, displayAt, displayHolds}
+use Rattle.model.specs.State.{Thread, State, noArea, noThread, areaAt, rowAt, threadAt, stackOf, stackAt, isOpen, displayAt, displayHolds}
 use Rattle.model.specs.Checks.{isStarted}
 use Rattle.model.specs.History.{History, rowOf, occurrences}
 use Rattle.model.specs.Claims.{Open, Walk, Meets, InOrder, scan}
@@ -79,6 +79,33 @@ module _ (s : State) (b : History) (g : Good s) (e : Same s b) where
   pub dropped : (a : ℕ) → isOpen s a ≡ false → displayAt s a ≡ []
   unfolding displayAt down
   dropped a o = ap (down (rowAt s a)) (no-depth a o)
+
+  -- ---- inside the tables
+
+  -- there are 16 threads
+  no-thread : (t : ℕ) → ltb t 16 ≡ false → threadAt s t ≡ noThread
+  no-thread t d = List·getD-eq-default (s .threads) noThread {n = t} (omega (arith, ltb-false t 16 d, g .threads .size))
+
+  pub threads : (t : ℕ) → b .started t ≡ true → t < 16
+  threads t k = cases (ltb t 16)
+      (λ d. ltb-true t 16 d)
+      (λ d. absurd (false≢true (sym (ap (λ (h : Thread). ltb 0 (h .kind)) (no-thread t d)) ∙ e .started t ∙ k)))
+
+  pub scopes : (a : ℕ) → Open b a → a < 64
+  scopes a o = open-at a o .1 .0 .area
+
+  pub stack-entries : (t : ℕ) → threadAt s t .len ≤ length (threadAt s t .entries)
+  stack-entries t = cases (ltb t 16)
+      (λ d. let k = g .threads .each t (ltb-true t 16 d) in omega (arith, k .fits, k .room))
+      (λ d. omega (arith, ap (λ (h : Thread). h .len) (no-thread t d)))
+
+  pub heights : (t : ℕ) → length (rowOf b t) ≤ 32
+  heights t = rw (← stacks t) (cases (ltb t 16)
+      (λ d. let k = g .threads .each t (ltb-true t 16 d) in omega (arith, height, k .fits))
+      (λ d. omega (arith, height, ap (λ (h : Thread). h .len) (no-thread t d))))
+    where
+      height : length (stackAt s t) ≡ threadAt s t .len
+      height = unfold stackOf in length-down (threadAt s t .entries) (threadAt s t .len)
 
   -- ---- walks
 

@@ -27,7 +27,7 @@ module _ (s : State) (g : Placed s) where
   low-inside (suc (suc a)) h = absurd (omega arith)
 
   -- an area ends within its store
-  area-inside : (a : ℕ) → a < 64 → areaAt s a .start + areaAt s a .size ≤ lengthFor s a
+  pub area-inside : (a : ℕ) → a < 64 → areaAt s a .start + areaAt s a .size ≤ lengthFor s a
   area-inside a h = cases (leb 2 a)
       (λ e. rw e (omega (arith, g .below a (leb-true 2 a e) h, g .taken)))
       (λ e. rw e (low-inside a (leb-false 2 a e)))
@@ -106,7 +106,7 @@ module _ (s : State) (m : Memory) (f : fits s m ≡ true) where
       let q = and-true (eqb (length (m .scratch)) (s .lengths .scratch)) _ (p .1) in
       record { permanent = eqb-true _ _ (p .0); scratch = eqb-true _ _ (q .0); map = eqb-true _ _ (q .1) }
 
-  store-length : (a : ℕ) → length (storeOf m a) ≡ lengthFor s a
+  pub store-length : (a : ℕ) → length (storeOf m a) ≡ lengthFor s a
   store-length a = cases (isScope a) (λ e. rw e (supplied-lengths .scratch)) (λ e. rw e (supplied-lengths .permanent))
 
   -- the same lengths fit

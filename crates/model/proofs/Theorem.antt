@@ -16,10 +16,10 @@ use Rattle.model.specs.Claims.{In, Among, Since, made, stays, Names, Cla
 use Rattle.model.proofs.Sound.{Sound}
 use Rattle.model.proofs.Keeps.{good-first}
 use Rattle.model.proofs.Agrees.{same-first}
-use Rattle.model.proofs.NestingClaims.{started, stacks, opens, parents, displays, dropped, order, looks, walked, scanned}
+use Rattle.model.proofs.NestingClaims.{started, stacks, opens, parents, displays, dropped, threads, scopes, heights, stack-entries, order, looks, walked, scanned}
 use Rattle.model.proofs.Live.{live-given, given-live, dead-not}
 use Rattle.model.proofs.KeepsMemory.{sound-first}
-use Rattle.model.proofs.MemoryClaims.{one-object, slot-holds, given-in, in-given}
+use Rattle.model.proofs.MemoryClaims.{one-object, slot-holds, within, given-in, in-given}
 use Rattle.model.proofs.Outcomes.{Transition, sound-line, lineOf, step-transition}
 use Rattle.model.proofs.Traces.{none-in, born, gone-run, among-some, area-below, open-area}
 use Rattle.model.proofs.Openings.{Opened, opened-first, opened-line}
@@ -138,11 +138,16 @@ module _ (w : World) (o : Told w) where
     parents = parents (w .state) b (sound .good) (sound .same);
     displays = displays (w .state) b (sound .good) (sound .same);
     dropped = dropped (w .state) b (sound .good) (sound .same);
+    threads = threads (w .state) b (sound .good) (sound .same);
+    scopes = scopes (w .state) b (sound .good) (sound .same);
+    heights = heights (w .state) b (sound .good) (sound .same);
+    stack-entries = stack-entries (w .state) b (sound .good) (sound .same);
     order = order (w .state) b (sound .good) (sound .same);
     references = λ a x i j h. ⊎-elim
         (λ z. inl z)
         (λ n. inr (given-names (wordAt (w .state) (w .memory) a (suc (offsetOf (x .handle) + j))) (n .given)))
         (slot-holds (w .state) (w .memory) b sound a x i (area-below (w .state) (w .memory) b sound a x i) j h);
+    within = λ a x i. within (w .state) (w .memory) b sound a x (area-below (w .state) (w .memory) b sound a x i) i;
     handles = λ x. (λ e. given-names x (live-given (w .state) (w .memory) b sound x e), names-live x);
     unique = λ a c x y i j e. one-object (w .state) (w .memory) b sound a c x y
         (area-below (w .state) (w .memory) b sound a x i) (area-below (w .state) (w .memory) b sound c y j) i j e;

@@ -3,7 +3,7 @@
 use Prim.Native.Nat.{ℕ, zero, suc, _≤_, _<_}
 use mathlib.Core.Bool.{false}
 use mathlib.Core.List.{List, [], _∷_}
-use mathlib.Core.Path.{_≡_, refl, sym, ap, _∙_}
+use mathlib.Core.Path.{_≡_, refl, sym, ap, _∙_, subst}
 use mathlib.Core.Logic.{_≢_}
 use lib.ListN.{length, getD}
 use lib.Dec.{ltb, leb, eqb}
@@ -36,7 +36,7 @@ module _ (par : ℕ → ℕ) (dis : ℕ → List ℕ) where
   -- the walk from the innermost scope is the nesting
   pub walk-is : (l : List ℕ) → Nested par dis l → Walk par (current l) l
   walk-is [] n = ends
-  walk-is (x ∷ l) n = goes {l = l} (n .0 .scope) (rw (n .0 .parent-is) (walk-is l (n .1)))
+  walk-is (x ∷ l) n = goes (n .0 .scope) (subst (λ c. Walk par c l) (sym (n .0 .parent-is)) (walk-is l (n .1)))
 
   module _ (a : ℕ) (h : 2 ≤ a) where
     pub meets-occ : (l : List ℕ) → Nested par dis l → (c : ℕ) → c ≡ current l → Meets par a c → 0 < occurrences a l
@@ -57,7 +57,7 @@ module _ (par : ℕ → ℕ) (dis : ℕ → List ℕ) where
         cases
         (eqb x a)
         (λ e. rw (eqb-true x a e) here)
-        (λ e. up (n .0 .scope) (rw (n .0 .parent-is) (occ-meets l (n .1) (rw (occ-other a x l (eqb-false x a e)) at p))))
+        (λ e. up (n .0 .scope) (subst (Meets par a) (sym (n .0 .parent-is)) (occ-meets l (n .1) (rw (occ-other a x l (eqb-false x a e)) at p))))
 
     -- the part of a row from a down
     pub row-at : (r : List ℕ) → Nested par dis (scopesOf r) → 0 < occurrences a r → (k : List ℕ) × Nested par dis (a ∷ k) × InOrder (a ∷ k) r

@@ -26,7 +26,8 @@ pub data Call : Type 0 where
   view : (t p : ℕ) → Call
   viewed : (t p : ℕ) → Call
 
--- the first refusal that meets, 0 where none does; the shown part yields no status, the call beside it does
+-- The first refusal that meets, 0 where none does. "Refusals of this call (1, 2, 13, 5) show a part of length 0; a call beside it yields the
+-- status": so view answers 0 always, a refused view is seen only by its empty part, and viewed has the refusal.
 abbrev pub callStatus : State → Memory → Call → ℕ
 callStatus s m (start t p) = startStatus s m t p
 callStatus s m (end t) = endStatus s m t

@@ -6,9 +6,10 @@ use mathlib.Core.List.{List, [], _∷_}
 use mathlib.Core.Path.{_≡_}
 use mathlib.Core.Logic.{_≢_, _↔_, _⊎_}
 use lib.Dec.{eqb}
+use lib.ListN.{length}
 use Rattle.layout.specs.Choice.{pick}
-use Rattle.layout.specs.Handle.{null, offsetOf}
-use Rattle.model.specs.State.{areaAt, stackAt, current, isOpen, displayAt, displayHolds, wordAt}
+use Rattle.layout.specs.Handle.{null, offsetOf, areaOf}
+use Rattle.model.specs.State.{State, Memory, areaAt, threadAt, stackAt, current, isOpen, displayAt, displayHolds, storeOf, wordAt}
 use Rattle.model.specs.Checks.{isStarted, live}
 use Rattle.model.specs.Calls.{enter, exit, allocate, load}
 use Rattle.model.specs.Run.{Element, Line, World, run}
@@ -56,6 +57,15 @@ pub data Among (x : ℕ) : List ℕ → Type 0 where
   first : {l : List ℕ} → Among x (x ∷ l)
   later : {y : ℕ} {l : List ℕ} → Among x l → Among x (y ∷ l)
 
+-- object o of area a lies inside: its handle has that area, its last word is a used one, the used words are the area's, and the area ends
+-- within its store
+pub record Within (s : State) (m : Memory) (a : ℕ) (o : Object) : Type 0 where
+  pub area : areaOf (o .handle) ≡ a
+  pub number : a < 64
+  pub ends : suc (offsetOf (o .handle) + o .slots + o .words) ≤ areaAt s a .used
+  pub used : areaAt s a .used ≤ areaAt s a .size
+  pub inside : areaAt s a .start + areaAt s a .size ≤ length (storeOf m a)
+
 -- a line of an accepted allocation that gave x, by a thread whose row has area a on top
 pub record Allocates (b : History) (l : Line) (x a : ℕ) : Type 0 where
   pub thread : ℕ
@@ -88,7 +98,10 @@ pub data Follows (l : Line) (before : List Line) : List Line → Type 0 where
 
 -- ---- the claims
 
--- of a world that a list of calls has led to, with its book
+-- Of a world that a list of calls has led to, with its book. None holds by a read past the end of a table or of a store: there a thread is
+-- not started, an area is not open, a row is empty, a map bit is 0, an entry of a display is 0, which is no scope. Threads and scopes that
+-- the book has lie inside (threads, scopes), and so do the entries of a stack, which would read as the heap (stack-entries), and every slot of a
+-- live object, which would read as null (within).
 pub record Claims (w : World) (b : History) : Type 0 where
   -- 1. "The core has the book's started threads, stacks, open scopes and parents."
   pub started : (t : ℕ) → isStarted (w .state) t ≡ b .started t
@@ -98,6 +111,12 @@ pub record Claims (w : World) (b : History) : Type 0 where
   -- "Each open scope has a display: the row of its ancestors, outermost first, itself last." One that is not open has none.
   pub displays : (a : ℕ) → Open b a → Walk (b .parents) a (displayAt (w .state) a)
   pub dropped : (a : ℕ) → isOpen (w .state) a ≡ false → displayAt (w .state) a ≡ []
+  -- "2 to 63 scopes. Threads are 0 to 15."
+  pub threads : (t : ℕ) → b .started t ≡ true → t < 16
+  pub scopes : (a : ℕ) → Open b a → a < 64
+  -- "A stack has at most 32 entries."
+  pub heights : (t : ℕ) → length (rowOf b t) ≤ 32
+  pub stack-entries : (t : ℕ) → threadAt (w .state) t .len ≤ length (threadAt (w .state) t .entries)
   -- 2. "Every thread in a scope stands in all that scope's ancestors, in their order."
   pub order : (t a : ℕ) → 2 ≤ a → 0 < occurrences a (rowOf b t) → (l : List ℕ) × Walk (b .parents) a l × InOrder l (rowOf b t)
   -- 3. "Every reference in a live object is null or names a live object: one in the heap, in immortal memory, or in a scope that, by the list
@@ -105,6 +124,7 @@ pub record Claims (w : World) (b : History) : Type 0 where
   pub references : (a : ℕ) (o : Object) → In o (b .objects a) → (i : ℕ) → i < o .slots
       → (wordAt (w .state) (w .memory) a (suc (offsetOf (o .handle) + i)) ≡ null)
       ⊎ Names b (w .trace) (wordAt (w .state) (w .memory) a (suc (offsetOf (o .handle) + i)))
+  pub within : (a : ℕ) (o : Object) → In o (b .objects a) → Within (w .state) (w .memory) a o
   -- 4. "A number is a live handle exactly when an allocation gave it for a live object"
   pub handles : (x : ℕ) → (live (w .state) (w .memory) x ≡ true) ↔ Names b (w .trace) x
   -- "names the object with that handle": no two live objects have one handle

@@ -1,0 +1,105 @@
+-- Runs of calls and their answers, for the samples. Whoever unfolds `answer` unfolds every definition that a call computes with.
+-- Assumes nothing.
+use Prim.Native.Nat.{ℕ}
+use mathlib.Core.List.{List, [], _∷_, map}
+use lib.ListN.{replicate}
+use Rattle.layout.specs.Choice.{refuse}
+use Rattle.layout.specs.Handle.{handleOf, offsetOf, areaOf, generationOf}
+use Rattle.layout.specs.Header.{headerOf, slotsOf, dataOf}
+use Rattle.layout.specs.Stack.{down}
+use Rattle.bitmap.specs.Bitmap.{bitAt, withBit, withoutBit, cleared}
+use Rattle.rights.specs.Rights.{classOf, rightsRows, rightDigit, allows}
+use Rattle.display.specs.Display.{rowHolds}
+use Rattle.model.specs.State.{State, Memory, withArea, withRow, withThread, withTaken, stackOf, innermost, isMade, displayHolds, withStore}
+use Rattle.model.specs.SetUp.{firstState}
+use Rattle.model.specs.Checks.{fits, admit, hasRight, live, isObject, isReference, useStatus}
+use Rattle.model.specs.Threads.{startStatus, startState, endStatus, endState}
+use Rattle.model.specs.Scopes.{makeStatus, makeState, otherParent, exhausted, enterStatus, enteredArea, pushed, enterState, enterValue, exitStatus, leftArea, popped, exitState, exitValue}
+use Rattle.model.specs.Objects.{allocateStatus, allocateState, filled, objectWords, objectBits, allocateMemory, allocateValue}
+use Rattle.model.specs.References.{mayRefer, storeAfter, slotStatus, referenceStatus, storeStatus, loadStatus}
+use Rattle.model.specs.Data.{dataStatus, viewStatus, viewWords}
+use Rattle.model.specs.Calls.{Call, start, make, enter, allocate, Reply, outcomeOf}
+use Rattle.model.specs.Run.{World, kept, step, begin}
+
+-- what a call answers
+unfoldable pub answer : World → Call → Reply
+unfolding refuse handleOf offsetOf areaOf generationOf headerOf slotsOf dataOf down bitAt withBit withoutBit cleared classOf rightsRows rightDigit allows rowHolds
+    withArea withRow withThread withTaken stackOf innermost isMade displayHolds withStore firstState fits admit hasRight live isObject isReference useStatus
+    startStatus startState endStatus endState makeStatus makeState otherParent exhausted enterStatus enteredArea pushed enterState enterValue
+    exitStatus leftArea popped exitState exitValue
+    allocateStatus allocateState filled objectWords objectBits allocateMemory allocateValue mayRefer storeAfter slotStatus referenceStatus storeStatus loadStatus
+    dataStatus viewStatus viewWords outcomeOf step begin
+answer w c = outcomeOf (w .state) (w .memory) c .reply
+
+unfoldable pub status : World → Call → ℕ
+unfolding answer
+status w c = answer w c .status
+
+unfoldable pub value : World → Call → ℕ
+unfolding answer
+value w c = answer w c .value
+
+-- the world that a call leaves, and a list of calls
+unfoldable pub next : World → Call → World
+unfolding answer
+next w c = step w (record { call = c; supplied = kept })
+
+unfoldable pub after : World → List Call → World
+unfolding next
+after w [] = w
+after w (c ∷ cs) = after (next w c) cs
+
+-- the statuses and the values of a list of calls
+unfoldable pub statuses : World → List Call → List ℕ
+unfolding status next
+statuses w [] = []
+statuses w (c ∷ cs) = status w c ∷ statuses (next w c) cs
+
+unfoldable pub values : World → List Call → List ℕ
+unfolding value next
+values w [] = []
+values w (c ∷ cs) = value w c ∷ values (next w c) cs
+
+-- the statuses of calls, each of them the next one
+unfoldable pub each : World → List Call → List ℕ
+unfolding status
+each w cs = map (status w) cs
+
+-- the same with another memory, and with another state
+abbrev pub supplied : World → Memory → World
+supplied w m = record { state = w .state; memory = m; trace = w .trace }
+
+abbrev pub withState : World → State → World
+withState w s = record { state = s; memory = w .memory; trace = w .trace }
+
+-- ---- the world of the samples
+
+-- n words
+abbrev pub copies : ℕ → ℕ → List ℕ
+copies n v = replicate n v
+
+-- set-up with 3 words of heap, 6 of immortal and 12 of scratch; each word is 9 and each map bit is 1: "the lent words may hold anything"
+unfoldable pub first : World
+first = begin 3 6 (record { permanent = copies 9 9; scratch = copies 12 9; map = copies 1 18446744073709551615 })
+
+-- Thread 1 is ordinary, 2 real-time, 3 no-heap, as their kinds. Thread 2 is in immortal memory, then in scope 2 of 6 words, then in scope 3
+-- of 4 words. An object of 1 slot and 1 data word fills the heap; one of 2 and 2 is in immortal memory, one of 1 and 2 in scope 2, one of 1
+-- slot in scope 3.
+unfoldable pub busy : World
+unfolding first after
+busy = after first
+    (start 1 1 ∷ start 2 2 ∷ start 3 3 ∷ make 2 2 6 ∷ make 2 3 4 ∷ allocate 2 1 1
+    ∷ enter 2 1 ∷ allocate 2 2 2 ∷ enter 2 2 ∷ allocate 2 1 2 ∷ enter 2 3 ∷ allocate 2 1 0 ∷ [])
+
+-- their handles: offset 0 and generation 1
+abbrev pub inHeap : ℕ
+inHeap = 1048576
+
+abbrev pub inImmortal : ℕ
+inImmortal = 1064960
+
+abbrev pub in2 : ℕ
+in2 = 1081344
+
+abbrev pub in3 : ℕ
+in3 = 1097728
