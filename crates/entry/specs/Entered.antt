@@ -6,15 +6,13 @@ use Prim.Native.Nat.{ℕ, suc, _+_, _*_, _≤_, _<_}
 use native.Mathlib.Numerals.{add-one}
 use native.Mathlib.Omega.{arith}
 use lib.Dec.{leb, ltb}
-use lib.ListN.{length, getD, set, length-set}
-use lib.Seq.{getD-set-same}
+use lib.ListN.{length, getD, length-set}
 use borrow.Author.Tests.{le-leb, lt-leb, lt-ltb, le-ltb}
 use Rattle.layout.specs.Choice.{pick, cases}
 use Rattle.display.specs.Display.{extendedRow}
 use Rattle.model.specs.declared.Area.{Area}
 use Rattle.model.specs.State.{State, areaAt, threadAt, withArea, withRow, stackAt, innermost, isScope}
 use Rattle.model.specs.Scopes.{reentered, opened, enteredArea, pushed, enterState, enterValue}
-use Rattle.tables.specs.Cut.{set-put}
 use Rattle.tables.specs.Decode.{stateOf, areaOf, rowOf, putArea, putRow, putLen, putEntry, putInner, Sized, Holds}
 use Rattle.tables.specs.Laws.{area-read, row-read, len-read, length-row, state-area, state-row, state-push}
 use Rattle.entry.specs.Enter.{pushedState}
@@ -98,12 +96,3 @@ entered-holds w b v d v′ d′ t q p i e f a k = record {
       ∙ ap (λ (r : State). pushedState r t q i) (a .state)
       ∙ rw (entered-threads (stateOf w b) q p t, f, e) refl;
 }
-
--- ---- the display
-
--- a row is put, and behind it the one entry in which the next row differs: that is the next row
-pub row-extended : (b : List ℕ) (q d v : ℕ) (row next : List ℕ) → length row ≡ 32 → d < 32 → next ≡ extendedRow row d v
-    → set (putRow b q row) (1024 + q * 32 + d) (getD next d 0) ≡ putRow b q (extendedRow row d v)
-unfolding putRow
-row-extended b q d v row next h k e =
-    rw (e, getD-set-same row d v 0 (omega (arith, h))) (set-put row b (1024 + q * 32) d v (omega (arith, h)))

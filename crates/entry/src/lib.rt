@@ -91,17 +91,13 @@ fn opened_area(x: Area, parent: u64, depth: Depth) -> Area
     }
 }
 
-// The display of scope q, which opens below p: that of p, with q last. The copied row is written first
-// and then its one new entry: a row with one byte just stored would stall when it is read back.
+// The display of scope q, which opens below p: that of p, with q last.
 fn put_display(bytes: &mut Bytes, q: usize, p: usize, depth: Depth)
     requires { ⌜ (q < 64) × (p < 64) × (depth .0 < 32) ⌝ }
     ensures { λ u. ⌜ now (bytes .exit) ≡ putRow (now (bytes .entry)) q (extendedRow (rowOf (now (bytes .entry)) p) (depth .0) q) ⌝ }
 {
     let row = rows::row_at(bytes, p);
-    let next = display::extended(row, depth, q as u8);
-    let last = depth.0;
-    rows::put_row(bytes, q, row);
-    rows::put_ancestor(bytes, q, depth, next[last]);
+    rows::put_row(bytes, q, display::extended(row, depth, q as u8));
 }
 
 // Area q is entered where p is the innermost scope; its generation after that. The area is written before

@@ -1,2 +1,2 @@
--- What the proofs of the three classes share.
-pub mod Columns
+-- The lemmas that proofs share.
+pub mod Table

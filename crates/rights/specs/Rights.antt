@@ -6,10 +6,12 @@ use mathlib.Core.List.{List, [], _∷_}
 use lib.Dec.{eqb, ltb}
 use lib.ListN.{getD}
 use Rattle.layout.specs.Choice.{pick}
-use Rattle.rights.specs.declared.Class.{Class}
-use Rattle.rights.specs.declared.Class.the-variants.{Heap, Immortal, Scope}
 use Rattle.rights.specs.declared.Right.{Right}
 use Rattle.rights.specs.declared.Right.the-variants.{Enter, Allocate, Use, Refer}
+
+-- the classes of areas
+pub data Class : Type 0 where
+  Heap Immortal Scope : Class
 
 -- "Area 0 is the heap, 1 immortal, 2 to 63 scopes."
 unfoldable pub classOf : ℕ → Class
@@ -42,7 +44,3 @@ rightDigit kind class right = getD rightsRows ((kind - 1) * 3 + class) 0 / 2 ^ (
 unfoldable pub allows : ℕ → Class → Right → Bool
 allows kind class right =
     pick (eqb kind 0) false (pick (ltb 3 kind) false (eqb (rightDigit kind (classIndex class) (rightIndex right)) 1))
-
--- the entry of a kind, of the entries of kinds 1, 2 and 3
-unfoldable pub ofKind : ℕ → ℕ → ℕ → ℕ → Bool
-ofKind kind a b c = pick (eqb kind 1) (eqb a 1) (pick (eqb kind 2) (eqb b 1) (pick (eqb kind 3) (eqb c 1) false))

@@ -3,8 +3,7 @@ use display::Depth;
 use display::Row;
 use tables::Bytes;
 ghost use mathlib.Core.Path.{_≡_};
-ghost use Prim.Native.Nat.{_+_, _*_, _<_, _≤_};
-ghost use lib.ListN.{set};
+ghost use Prim.Native.Nat.{_<_, _≤_};
 ghost use Rattle.display.specs.Display.{rowHolds};
 ghost use Rattle.tables.specs.Decode.{rowOf, putRow};
 
@@ -33,15 +32,6 @@ pub fn put_row(bytes: &mut Bytes, a: usize, row: Row)
         bytes[at + i] = row[i];
         i += 1;
     }
-}
-
-// The entry of an area's display that stands behind its first `depth` ones.
-pub fn put_ancestor(bytes: &mut Bytes, a: usize, depth: Depth, area: u8)
-    requires { ⌜ (a < 64) × (depth .0 < 32) ⌝ }
-    ensures { λ r. ⌜ now (bytes .exit) ≡ set (now (bytes .entry)) (1024 + a * 32 + depth .0) area ⌝ }
-{
-    let k = depth.0;
-    bytes[1024 + a * 32 + k] = area;
 }
 
 // Whether the display of area b holds an area of a depth: one look.
