@@ -32,5 +32,5 @@ pub mod KeepsMemory
 pub mod MemoryClaims
 pub mod Outcomes
 pub mod Traces
-pub mod Meanings
 pub mod Theorem
+pub mod Meanings
