@@ -5,10 +5,8 @@ use mathlib.Core.List.{List, [], _∷_}
 use mathlib.Core.Path.{_≡_, refl}
 use lib.ListN.{set}
 use Rattle.layout.specs.Choice.{pick}
-use Rattle.rights.specs.declared.Class.{Class}
-use Rattle.rights.specs.declared.Class.the-variants.{Heap, Immortal, Scope}
 use Rattle.rights.specs.declared.Right.the-variants.{Enter, Allocate, Use, Refer}
-use Rattle.rights.specs.Rights.{classOf, allows}
+use Rattle.rights.specs.Rights.{Class, Heap, Immortal, Scope, classOf, allows}
 use Rattle.model.specs.State.{withArea}
 use Rattle.model.specs.SetUp.{setUpStatus, setUpState}
 use Rattle.model.specs.Calls.{Call, start, end, make, enter, exit, allocate, store, load, write, read, viewed}

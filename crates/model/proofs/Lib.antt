@@ -32,10 +32,10 @@ pub mod KeepsMemory
 pub mod MemoryClaims
 pub mod Outcomes
 pub mod Traces
-pub mod Meanings
 pub mod ValueMeanings
 pub mod Openings
 pub mod Stored
 pub mod Answers
 pub mod Theorem
 pub mod Reached
+pub mod Meanings

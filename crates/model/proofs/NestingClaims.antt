@@ -94,8 +94,8 @@ module _ (s : State) (b : History) (g : Good s) (e : Same s b) where
   pub scopes : (a : ℕ) → Open b a → a < 64
   scopes a o = open-at a o .1 .0 .area
 
-  pub stack-entries : (t : ℕ) → threadAt s t .len ≤ length (threadAt s t .entries)
-  stack-entries t = cases (ltb t 16)
+  pub room : (t : ℕ) → threadAt s t .len ≤ length (threadAt s t .entries)
+  room t = cases (ltb t 16)
       (λ d. let k = g .threads .each t (ltb-true t 16 d) in omega (arith, k .fits, k .room))
       (λ d. omega (arith, ap (λ (h : Thread). h .len) (no-thread t d)))
 

@@ -16,7 +16,7 @@ use Rattle.model.specs.Claims.{In, Among, Since, made, stays, Names, Cla
 use Rattle.model.proofs.Sound.{Sound}
 use Rattle.model.proofs.Keeps.{good-first}
 use Rattle.model.proofs.Agrees.{same-first}
-use Rattle.model.proofs.NestingClaims.{started, stacks, opens, parents, displays, dropped, threads, scopes, heights, stack-entries, order, looks, walked, scanned}
+use Rattle.model.proofs.NestingClaims.{started, stacks, opens, parents, displays, dropped, threads, scopes, heights, room, order, looks, walked, scanned}
 use Rattle.model.proofs.Live.{live-given, given-live, dead-not}
 use Rattle.model.proofs.KeepsMemory.{sound-first}
 use Rattle.model.proofs.MemoryClaims.{one-object, slot-holds, within, given-in, in-given}
@@ -141,7 +141,7 @@ module _ (w : World) (o : Told w) where
     threads = threads (w .state) b (sound .good) (sound .same);
     scopes = scopes (w .state) b (sound .good) (sound .same);
     heights = heights (w .state) b (sound .good) (sound .same);
-    stack-entries = stack-entries (w .state) b (sound .good) (sound .same);
+    room = room (w .state) b (sound .good) (sound .same);
     order = order (w .state) b (sound .good) (sound .same);
     references = λ a x i j h. ⊎-elim
         (λ z. inl z)

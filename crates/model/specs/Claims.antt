@@ -100,7 +100,7 @@ pub data Follows (l : Line) (before : List Line) : List Line → Type 0 where
 
 -- Of a world that a list of calls has led to, with its book. None holds by a read past the end of a table or of a store: there a thread is
 -- not started, an area is not open, a row is empty, a map bit is 0, an entry of a display is 0, which is no scope. Threads and scopes that
--- the book has lie inside (threads, scopes), and so do the entries of a stack, which would read as the heap (stack-entries), and every slot of a
+-- the book has lie inside (threads, scopes), and so do the entries of a stack, which would read as the heap (room), and every slot of a
 -- live object, which would read as null (within).
 pub record Claims (w : World) (b : History) : Type 0 where
   -- 1. "The core has the book's started threads, stacks, open scopes and parents."
@@ -116,7 +116,7 @@ pub record Claims (w : World) (b : History) : Type 0 where
   pub scopes : (a : ℕ) → Open b a → a < 64
   -- "A stack has at most 32 entries."
   pub heights : (t : ℕ) → length (rowOf b t) ≤ 32
-  pub stack-entries : (t : ℕ) → threadAt (w .state) t .len ≤ length (threadAt (w .state) t .entries)
+  pub room : (t : ℕ) → threadAt (w .state) t .len ≤ length (threadAt (w .state) t .entries)
   -- 2. "Every thread in a scope stands in all that scope's ancestors, in their order."
   pub order : (t a : ℕ) → 2 ≤ a → 0 < occurrences a (rowOf b t) → (l : List ℕ) × Walk (b .parents) a l × InOrder l (rowOf b t)
   -- 3. "Every reference in a live object is null or names a live object: one in the heap, in immortal memory, or in a scope that, by the list
