@@ -1,42 +1,79 @@
 // Standard input to standard output: each line of calls is answered by a line. The work is done in
 // `reader`; here are the buffers, the reads and the writes.
+//
+// What is proved: each chunk that `read_chunk` leaves in the input is fed whole and once, to the core
+// and the line that the chunk before it left, and its answers are handed whole and once to
+// `write_answers`; the rest likewise at the end of the input, and nothing after a failure
+// (`specs/Progress.antt`). So what is handed over is the answers to what was read, from the first world
+// on (`specs/Whole.antt`).
+//
+// What is not proved, and has to be read: the bodies of the two functions that call the system,
+// `read_chunk` and `write_answers`, beyond their numbers of bytes and steps, since no contract says
+// which bytes `read` gave and `write` took; and that no other function calls `io` or `libc`, or
+// changes `steps` or the input.
 use digits::digit::Text;
 use libc::STDERR_FILENO;
 use libc::STDIN_FILENO;
 use libc::STDOUT_FILENO;
+use reader::feed::Fed;
 use tables::Bytes;
 use tables::Words;
 ghost use mathlib.Core.Path.{_≡_};
-ghost use Prim.Native.Nat.{_*_, _≤_};
-ghost use lib.ListN.{length, replicate};
+ghost use Prim.Native.Nat.{_*_, _≤_, _<_};
+ghost use lib.ListN.{length, take, replicate};
+ghost use Rattle.io.specs.Counts.{Counts};
 ghost use Rattle.tables.specs.Contract.{Ready};
 ghost use Rattle.reader.specs.Output.{firstWorld};
 ghost use Rattle.reader.specs.Held.{core, Stands};
+ghost use Rattle.frames.specs.Clauses.{coreIn, coreOut, ChunkFed, InputEnded};
+ghost use Rattle.frames.specs.Progress.{Read, Wrote, Continues, Ran};
 
-// How many bytes the line so far has, and whether there may be more to read. After a failure nothing
-// is left to answer.
-struct Progress {
-    len: usize,
-    more: bool,
+// Room for the answers to a chunk. No other buffer has this type, so what is written is the start of
+// this one.
+type Output = [u8; 311296];
+
+// How a run ended: how many bytes the last read gave, how many steps were left before and after
+// the rest was answered (none before it if something failed), and how many bytes its answer has.
+struct Ended {
+    n: usize,
+    kept: usize,
+    left: usize,
+    sent: usize,
 }
 
-fn failed() -> Progress {
-    Progress {
-        len: 0,
-        more: false,
+// One read: how many bytes it put at the start of the input. It takes a step for each and one more.
+// If it fails, standard error says so, and one step is left, for the write of no answers.
+fn read_chunk(input: &mut [u8], steps: &mut usize) -> usize
+    requires { ⌜ length (now input) < now steps ⌝ }
+    ensures { λ r. ⌜ (Counts r (now (input .exit))) × (Read (now (steps .entry)) (now (steps .exit)) r) ⌝ }
+{
+    let got = libc::read(STDIN_FILENO, input);
+    if got < 0 {
+        io::write_all(STDERR_FILENO, b"frames: standard input cannot be read\n");
+        *steps = 1;
+        return 0;
     }
+    let n = io::count(got, input);
+    *steps -= n + 1;
+    n
 }
 
-// Writes answers. Whether all were written; if not, standard error says so.
-fn write_answers(answers: &[u8]) -> bool {
-    let is_written = io::write_all(STDOUT_FILENO, answers);
-    if !is_written {
+// Writes the first n bytes of the output. It takes a step for each and one more. If not all are
+// written, standard error says so, and no step is left.
+fn write_answers(output: &Output, n: usize, steps: &mut usize)
+    requires { ⌜ (Counts n (now output)) × (n < now steps) ⌝ }
+    ensures { λ _. ⌜ Wrote (now (steps .entry)) (now (steps .exit)) n ⌝ }
+{
+    let all: &[u8] = output;
+    if !io::write_all(STDOUT_FILENO, &all[..n]) {
         io::write_all(STDERR_FILENO, b"frames: the answers cannot be written\n");
+        *steps = 0;
+        return;
     }
-    is_written
+    *steps -= n + 1;
 }
 
-// Answers the lines that end in a chunk, and writes the answers by one call.
+// Answers the lines that end in the first n bytes of the input, and writes the answers.
 fn answer_chunk(
     words: &mut Words,
     bytes: &mut Bytes,
@@ -45,11 +82,15 @@ fn answer_chunk(
     map: &mut [u64],
     line: &mut Text,
     len: usize,
-    chunk: &[u8],
-    output: &mut [u8],
-) -> Progress
-    requires { ⌜ (Ready (now words) (now bytes)) × (length (now line) ≡ 40) × (19 * length (now chunk) ≤ length (now output)) ⌝ }
-    ensures { λ r. ⌜ (Ready (now (words .exit)) (now (bytes .exit))) × (length (now (line .exit)) ≡ 40) ⌝ }
+    input: &[u8],
+    n: usize,
+    output: &mut Output,
+    steps: &mut usize,
+) -> Fed
+    requires { ⌜ (Ready (now words) (now bytes)) × (length (now line) ≡ 40) × (19 * length (now input) ≤ length (now output)) ⌝ }
+    requires { ⌜ (Counts n (now input)) × (19 * n < now steps) ⌝ }
+    ensures { λ r. ⌜ ChunkFed words bytes permanent scratch map line len output (r .len) (r .written) (take n (now (input .entry))) ⌝ }
+    ensures { λ r. ⌜ Wrote (now (steps .entry)) (now (steps .exit)) (r .written) ⌝ }
 {
     let fed = reader::feed::feed(
         words,
@@ -59,57 +100,14 @@ fn answer_chunk(
         map,
         line,
         len,
-        chunk,
-        output,
-    );
-    let written = fed.written;
-    if !write_answers(&output[..written]) {
-        return failed();
-    }
-    Progress {
-        len: fed.len,
-        more: true,
-    }
-}
-
-// Reads a chunk and answers it. At the end of the input the line so far is left.
-fn take_chunk(
-    words: &mut Words,
-    bytes: &mut Bytes,
-    permanent: &mut [u64],
-    scratch: &mut [u64],
-    map: &mut [u64],
-    line: &mut Text,
-    len: usize,
-    input: &mut [u8],
-    output: &mut [u8],
-) -> Progress
-    requires { ⌜ (Ready (now words) (now bytes)) × (length (now line) ≡ 40) × (19 * length (now input) ≤ length (now output)) ⌝ }
-    ensures { λ r. ⌜ (Ready (now (words .exit)) (now (bytes .exit))) × (length (now (line .exit)) ≡ 40) ⌝ }
-{
-    let got = libc::read(STDIN_FILENO, input);
-    if got < 0 {
-        io::write_all(STDERR_FILENO, b"frames: standard input cannot be read\n");
-        return failed();
-    }
-    if got == 0 {
-        return Progress { len, more: false };
-    }
-    let n = io::count(got, input);
-    answer_chunk(
-        words,
-        bytes,
-        permanent,
-        scratch,
-        map,
-        line,
-        len,
         &input[..n],
         output,
-    )
+    );
+    write_answers(output, fed.written, steps);
+    fed
 }
 
-// Answers what is left at the end of the input.
+// Answers what is left at the end of the input. How many bytes were written.
 fn answer_rest(
     words: &mut Words,
     bytes: &mut Bytes,
@@ -118,16 +116,30 @@ fn answer_rest(
     map: &mut [u64],
     line: &Text,
     len: usize,
-    output: &mut [u8],
-)
-    requires { ⌜ (Ready (now words) (now bytes)) × (length (now line) ≡ 40) × (19 ≤ length (now output)) ⌝ }
+    output: &mut Output,
+    steps: &mut usize,
+) -> usize
+    requires { ⌜ (Ready (now words) (now bytes)) × (length (now line) ≡ 40) × (19 ≤ length (now output)) × (19 < now steps) ⌝ }
+    ensures { λ r. ⌜ InputEnded words bytes permanent scratch map line len output r ⌝ }
+    ensures { λ r. ⌜ Wrote (now (steps .entry)) (now (steps .exit)) r ⌝ }
 {
     let written = reader::feed::finish(words, bytes, permanent, scratch, map, line, len, output);
-    write_answers(&output[..written]);
+    write_answers(output, written, steps);
+    written
 }
 
-// Chunk after chunk, and then what is left, from the first world on. A proved loop has to end, and nothing says that the
-// input does, so the turns are counted down from a number that no run uses up.
+// Whether another round follows. None does after a failure, since no step is left then.
+fn goes_on(n: usize, steps: usize) -> bool
+    ensures { λ r. ⌜ Continues n steps r ⌝ }
+{
+    if n == 0 {
+        return false;
+    }
+    1000000 <= steps
+}
+
+// Round after round, and then what is left, from the first world on. A proved loop has to end, and
+// nothing says that the input does, so the steps are counted down from a number that no run uses up.
 fn answer_all(
     words: &mut Words,
     bytes: &mut Bytes,
@@ -135,16 +147,20 @@ fn answer_all(
     scratch: &mut [u64],
     map: &mut [u64],
     input: &mut [u8],
-    output: &mut [u8],
-)
-    requires { ⌜ (Ready (now words) (now bytes)) × (19 * length (now input) ≤ length (now output)) × (19 ≤ length (now output)) × (Stands (core (now words) (now bytes) (now permanent) (now scratch) (now map)) firstWorld) ⌝ }
+    output: &mut Output,
+) -> Ended
+    requires { ⌜ (Ready (now words) (now bytes)) × (length (now input) ≡ 16384) × (19 * length (now input) ≤ length (now output)) ⌝ }
+    requires { ⌜ Stands (core (now words) (now bytes) (now permanent) (now scratch) (now map)) firstWorld ⌝ }
+    ensures { λ r. ⌜ Ran (coreIn words bytes permanent scratch map) (coreOut words bytes permanent scratch map) (now (input .exit)) (now (output .exit)) r ⌝ }
 {
     let mut line = [0u8; 40];
     let mut len = 0;
-    let mut reads = u64::MAX;
-    while 0 < reads {
-        reads -= 1;
-        let progress = take_chunk(
+    let mut n = 1;
+    let mut steps = usize::MAX;
+    let mut more = true;
+    while more {
+        n = read_chunk(input, &mut steps);
+        let fed = answer_chunk(
             words,
             bytes,
             permanent,
@@ -153,14 +169,39 @@ fn answer_all(
             &mut line,
             len,
             input,
+            n,
             output,
+            &mut steps,
         );
-        len = progress.len;
-        if !progress.more {
-            reads = 0;
-        }
+        len = fed.len;
+        more = goes_on(n, steps);
     }
-    answer_rest(words, bytes, permanent, scratch, map, &line, len, output);
+    let kept = steps;
+    if kept == 0 {
+        return Ended {
+            n,
+            kept,
+            left: 0,
+            sent: 0,
+        };
+    }
+    let sent = answer_rest(
+        words,
+        bytes,
+        permanent,
+        scratch,
+        map,
+        &line,
+        len,
+        output,
+        &mut steps,
+    );
+    Ended {
+        n,
+        kept,
+        left: steps,
+        sent,
+    }
 }
 
 // A chunk of the input, and room for an answer to each byte of it. The `ensures` give only the
@@ -171,7 +212,7 @@ fn input_buffer() -> [u8; 16384]
     [0; 16384]
 }
 
-fn output_buffer() -> [u8; 311296]
+fn output_buffer() -> Output
     ensures { λ r. ⌜ length r ≡ 311296 ⌝ }
 {
     [0; 311296]

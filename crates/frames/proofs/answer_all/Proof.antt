@@ -1,94 +1,112 @@
--- `answer_all` is safe and ends. The invariant: the tables are what the next call asks, and no buffer changes its length.
+-- `answer_all` meets its contract. The invariant: the rounds so far lead from the core that it was given to this one.
 use mathlib.Core.Path.{_≡_, refl, _∙_}
-use Prim.Native.Nat.{_*_, _≤_}
+use Prim.Native.Nat.{_*_, _≤_, _<_}
 use native.Mathlib.Omega.{arith}
-use lib.ListN.{length}
+use lib.ListN.{length, take}
 use borrow.Author.Needs.{needs}
 use Rattle.tables.specs.Contract.{Ready}
+use Rattle.reader.specs.Held.{core}
+use Rattle.frames.specs.Progress.{Continues, Progress}
+use Rattle.frames.specs.ProgressLaws.{continues-first, write-enough, rest-enough, round-less, progress-none, progress-more, ran-failed, ran-whole}
 use Rattle.frames.proofs.answer_all.Statement.{statement}
 use Rattle.frames.proofs.answer_all.Tie as tie
 
 abbrev Inv-loop : tie.InvT-loop
-Inv-loop words₀ bytes₀ permanent₀ scratch₀ map₀ input₀ output₀ line₀ len₀ reads₀ words bytes permanent scratch map input output line len reads =
-    Ready words bytes × (length line ≡ 40) × (19 * length input₀ ≤ length output₀) × (19 ≤ length output₀)
-    × (length permanent ≡ length permanent₀) × (length scratch ≡ length scratch₀) × (length map ≡ length map₀)
-    × (length input ≡ length input₀) × (length output ≡ length output₀)
+Inv-loop words₀ bytes₀ permanent₀ scratch₀ map₀ input₀ output₀ line₀ len₀ n₀ steps₀ more₀ words bytes permanent scratch map input output line len n steps more =
+    Ready words bytes × (length line ≡ 40) × (length line₀ ≡ 40) × (length input ≡ 16384) × (19 * 16384 ≤ length output)
+    × (length permanent ≡ length permanent₀) × (length scratch ≡ length scratch₀) × (length map ≡ length map₀) × (length input ≡ length input₀)
+    × Progress (core words₀ bytes₀ permanent₀ scratch₀ map₀) line₀ (core words bytes permanent scratch map) line len (take n input) steps
+    × Continues n steps more × ((steps ≡ 0 → ⊥) → 19 < steps)
 
 abbrev μ-loop : tie.MeasureT-loop
-μ-loop words₀ bytes₀ permanent₀ scratch₀ map₀ input₀ output₀ line₀ len₀ reads₀ words bytes permanent scratch map input output line len reads =
-    reads
+μ-loop words₀ bytes₀ permanent₀ scratch₀ map₀ input₀ output₀ line₀ len₀ n₀ steps₀ more₀ words bytes permanent scratch map input output line len n steps more =
+    steps
 
 loop-holds : tie.Need-loop-holds Inv-loop μ-loop
 loop-holds c =
-    let p = c .before .before .before .before .before .pre in
-    (p .0, refl, p .1, p .2, refl, refl, refl, refl, refl)
+    let p = c .before .before .before .before .pre .0 in
+    (p .0, refl, refl, p .1, omega (arith, p .1, p .2), refl, refl, refl, refl, progress-none _ _ _, continues-first, λ _. omega arith)
 
-sub-reads : tie.Need-sub-reads Inv-loop μ-loop
-sub-reads c = search needs
+read-chunk-requires : tie.Need-read-chunk-requires Inv-loop μ-loop
+read-chunk-requires c κs =
+    let v = c .before .before .before .loop .inv in
+    omega (arith, v .3, v .10 .on (c .before .before .loop-test .taken) .1)
 
-take-chunk-requires : tie.Need-take-chunk-requires Inv-loop μ-loop
-take-chunk-requires c κs =
-    let v = c .before .before .before .before .before .before .before .before .before .loop .inv in
-    (v .0, v .1, omega (arith, v .2, v .7, v .8))
+answer-chunk-requires : tie.Need-answer-chunk-requires Inv-loop μ-loop
+answer-chunk-requires c κs =
+    let v = c .before .before .before .before .before .before .before .before .before .before .before .before .before .before .before .loop .inv in
+    let r = c .before .before .before .before .before .before .before .before .before .before .before .read-chunk in
+    let h = v .10 .on (c .before .before .before .before .before .before .before .before .before .before .before .before .before .before .loop-test .taken) .1 in (
+      (v .0, v .1, omega (arith, v .3, v .4, r .kept .0)),
+      (r .ensures .0, write-enough _ _ _ h (omega (arith, v .3, r .kept .0, r .ensures .0 .0)) (r .ensures .1)),
+    )
+
+goes-on-requires : tie.Need-goes-on-requires Inv-loop μ-loop
+goes-on-requires c κs = search needs
 
 loop-less : tie.Need-loop-less Inv-loop μ-loop
-loop-less c = search needs
+loop-less c = round-less _ _ _ _ _ (c .before .before .before .before .before .before .before .before .before .before .before .before .before .before .before .before .before .before .before .before .before .before .before .loop .inv .10 .on (c .before .before .before .before .before .before .before .before .before .before .before .before .before .before .before .before .before .before .before .before .before .before .loop-test .taken) .1) (c .before .before .before .before .before .before .before .before .before .before .before .before .before .before .before .before .before .before .before .read-chunk .ensures .1) (c .before .before .before .before .before .before .before .answer-chunk .ensures .1)
 
 loop-again : tie.Need-loop-again Inv-loop μ-loop
 loop-again c =
-    let t = c .before .before .before .before .before .before .before .before .before .before .before .before .take-chunk in
-    let v = c .before .before .before .before .before .before .before .before .before .before .before .before .before .before .before .before .before .before .before .before .before .before .loop .inv in (
-      t .ensures .0,
-      t .ensures .1,
+    let v = c .before .before .before .before .before .before .before .before .before .before .before .before .before .before .before .before .before .before .before .before .before .before .before .loop .inv in
+    let h = v .10 .on (c .before .before .before .before .before .before .before .before .before .before .before .before .before .before .before .before .before .before .before .before .before .before .loop-test .taken) .1 in
+    let r = c .before .before .before .before .before .before .before .before .before .before .before .before .before .before .before .before .before .before .before .read-chunk in
+    let a = c .before .before .before .before .before .before .before .answer-chunk in
+    let f = a .ensures .0 in (
+      f .ready,
+      f .sized,
       v .2,
-      v .3,
-      t .kept .1 .1 .0 ∙ v .4,
-      t .kept .1 .1 .1 .0 ∙ v .5,
-      t .kept .1 .1 .1 .1 .0 ∙ v .6,
-      t .kept .1 .1 .1 .1 .1 .1 .1 .0 ∙ v .7,
-      t .kept .1 .1 .1 .1 .1 .1 .1 .1 .0 ∙ v .8,
+      r .kept .0 ∙ v .3,
+      omega (arith, f .long, v .4),
+      a .kept .1 .1 .0 ∙ v .5,
+      a .kept .1 .1 .1 .0 ∙ v .6,
+      a .kept .1 .1 .1 .1 .0 ∙ v .7,
+      r .kept .0 ∙ v .8,
+      progress-more (v .9) h (r .ensures .1) (r .ensures .0 .1) (omega (arith, r .ensures .0 .0, r .ensures .0 .1, r .kept .0, v .3, v .4)) f (a .ensures .1),
+      c .goes-on .ensures,
+      rest-enough _ _ _ _ _ h (omega (arith, r .ensures .0 .0, r .kept .0, v .3)) (omega (arith, f .room, r .ensures .0 .1)) (r .ensures .1) (a .ensures .1),
     )
 
-loop-less-2 : tie.Need-loop-less-2 Inv-loop μ-loop
-loop-less-2 c = search needs
+same-length : tie.Need-same-length Inv-loop μ-loop
+same-length c = c .before .before .loop .inv .5
 
-loop-again-2 : tie.Need-loop-again-2 Inv-loop μ-loop
-loop-again-2 c =
-    let t = c .before .before .before .before .before .before .before .before .before .before .before .before .take-chunk in
-    let v = c .before .before .before .before .before .before .before .before .before .before .before .before .before .before .before .before .before .before .before .before .before .before .loop .inv in (
-      t .ensures .0,
-      t .ensures .1,
-      v .2,
-      v .3,
-      t .kept .1 .1 .0 ∙ v .4,
-      t .kept .1 .1 .1 .0 ∙ v .5,
-      t .kept .1 .1 .1 .1 .0 ∙ v .6,
-      t .kept .1 .1 .1 .1 .1 .1 .1 .0 ∙ v .7,
-      t .kept .1 .1 .1 .1 .1 .1 .1 .1 .0 ∙ v .8,
-    )
+same-length-2 : tie.Need-same-length-2 Inv-loop μ-loop
+same-length-2 c = c .before .before .loop .inv .6
+
+same-length-3 : tie.Need-same-length-3 Inv-loop μ-loop
+same-length-3 c = c .before .before .loop .inv .7
+
+same-length-4 : tie.Need-same-length-4 Inv-loop μ-loop
+same-length-4 c = c .before .before .loop .inv .8
+
+returns : tie.Need-returns Inv-loop μ-loop
+returns c =
+    let v = c .before .before .loop .inv in
+    ran-failed (c .before .before .before .before .before .before .before .pre .1) (v .2) (v .9) (v .10 .off (c .before .loop-test .left)) (omega (arith, v .4)) (c .if1 .taken)
 
 answer-rest-requires : tie.Need-answer-rest-requires Inv-loop μ-loop
 answer-rest-requires c κs =
-    let v = c .before .before .before .before .before .before .before .before .loop .inv in
-    (v .0, v .1, omega (arith, v .3, v .8))
-
-same-length : tie.Need-same-length Inv-loop μ-loop
-same-length c = c .before .before .before .before .before .before .before .before .answer-rest .kept .1 .1 .0 ∙ c .before .before .before .before .before .before .before .before .before .before .before .before .before .before .before .before .before .loop .inv .4
-
-same-length-2 : tie.Need-same-length-2 Inv-loop μ-loop
-same-length-2 c = c .before .before .before .before .before .before .before .before .answer-rest .kept .1 .1 .1 .0 ∙ c .before .before .before .before .before .before .before .before .before .before .before .before .before .before .before .before .before .loop .inv .5
-
-same-length-3 : tie.Need-same-length-3 Inv-loop μ-loop
-same-length-3 c = c .before .before .before .before .before .before .before .before .answer-rest .kept .1 .1 .1 .1 .0 ∙ c .before .before .before .before .before .before .before .before .before .before .before .before .before .before .before .before .before .loop .inv .6
-
-same-length-4 : tie.Need-same-length-4 Inv-loop μ-loop
-same-length-4 c = c .before .before .before .before .before .before .before .before .before .before .before .before .before .before .before .before .before .loop .inv .7
+    let v = c .before .before .before .before .before .before .before .before .before .before .loop .inv in
+    (v .0, v .1, omega (arith, v .4), v .11 (c .before .before .before .before .before .before .before .before .if1 .left))
 
 same-length-5 : tie.Need-same-length-5 Inv-loop μ-loop
-same-length-5 c = c .before .before .before .before .before .before .before .before .answer-rest .kept .1 .1 .1 .1 .1 .1 .1 .0 ∙ c .before .before .before .before .before .before .before .before .before .before .before .before .before .before .before .before .before .loop .inv .8
+same-length-5 c = c .before .before .before .before .before .before .answer-rest .kept .1 .1 .0 ∙ c .before .before .before .before .before .before .before .before .before .before .before .before .before .before .before .before .before .loop .inv .5
 
-returns : tie.Need-returns Inv-loop μ-loop
-returns c = search needs
+same-length-6 : tie.Need-same-length-6 Inv-loop μ-loop
+same-length-6 c = c .before .before .before .before .before .before .answer-rest .kept .1 .1 .1 .0 ∙ c .before .before .before .before .before .before .before .before .before .before .before .before .before .before .before .before .before .loop .inv .6
+
+same-length-7 : tie.Need-same-length-7 Inv-loop μ-loop
+same-length-7 c = c .before .before .before .before .before .before .answer-rest .kept .1 .1 .1 .1 .0 ∙ c .before .before .before .before .before .before .before .before .before .before .before .before .before .before .before .before .before .loop .inv .7
+
+same-length-8 : tie.Need-same-length-8 Inv-loop μ-loop
+same-length-8 c = c .before .before .before .before .before .before .before .before .before .before .before .before .before .before .before .before .before .loop .inv .8
+
+returns-2 : tie.Need-returns-2 Inv-loop μ-loop
+returns-2 c =
+    let v = c .before .before .before .before .before .before .before .before .before .before .before .before .before .before .before .before .before .loop .inv in
+    let a = c .before .before .before .before .before .before .answer-rest .ensures in
+    ran-whole (c .before .before .before .before .before .before .before .before .before .before .before .before .before .before .before .before .before .before .before .before .before .before .pre .1) (v .2) (v .9) (v .10 .off (c .before .before .before .before .before .before .before .before .before .before .before .before .before .before .before .before .loop-test .left)) (omega (arith, v .4)) (c .before .before .before .before .before .before .before .before .before .before .before .before .before .before .before .if1 .left) (a .0) (a .1)
 
 pub answer-all-spec : {M : Type 1} → statement M
 answer-all-spec =
@@ -97,16 +115,19 @@ answer-all-spec =
     Inv-loop
     μ-loop
     loop-holds
-    sub-reads
-    take-chunk-requires
+    read-chunk-requires
+    answer-chunk-requires
+    goes-on-requires
     loop-less
     loop-again
-    loop-less-2
-    loop-again-2
-    answer-rest-requires
     same-length
     same-length-2
     same-length-3
     same-length-4
+    returns
+    answer-rest-requires
     same-length-5
-    returns)
+    same-length-6
+    same-length-7
+    same-length-8
+    returns-2)

@@ -44,18 +44,13 @@ slice-aggregate-answer-all-3 c = search needs
 slice-aggregate-answer-all-4 : tie.Need-slice-aggregate-answer-all-4
 slice-aggregate-answer-all-4 c = search needs
 
-slice-aggregate-answer-all-5 : tie.Need-slice-aggregate-answer-all-5
-slice-aggregate-answer-all-5 c = search needs
-
 answer-all-requires : tie.Need-answer-all-requires
 answer-all-requires c κs =
     let s = c .before .before .before .before .before .before .before .before .before .before .before in
     let i = c .before .before .before .before .before .before .before .before .input-buffer .ensures in
     let o = c .before .before .before .before .before .before .before .output-buffer .ensures in
     let m = s .before .before .before .before in (
-      s .set-up .ensures .ready,
-      omega (arith, i, o),
-      omega (arith, o),
+      (s .set-up .ensures .ready, i, omega (arith, i, o)),
       first-stands _ _ _ _ _ _ (m .before .before .permanent-store .ensures) (m .before .scratch-store .ensures) (m .start-map .ensures) (s .set-up .ensures),
     )
 
@@ -79,6 +74,5 @@ main-spec =
     slice-aggregate-answer-all-2
     slice-aggregate-answer-all-3
     slice-aggregate-answer-all-4
-    slice-aggregate-answer-all-5
     answer-all-requires
     returns)
