@@ -10,7 +10,7 @@
 // What is not proved, and has to be read: the bodies of the two functions that call the system,
 // `read_chunk` and `write_answers`, beyond their numbers of bytes and steps, since no contract says
 // which bytes `read` gave and `write` took; and that no other function calls `io` or `libc`, or
-// changes `steps` or the input.
+// changes `steps` or the input (docs/DECISIONS.md, 51).
 use digits::digit::Text;
 use libc::STDERR_FILENO;
 use libc::STDIN_FILENO;
