@@ -28,8 +28,11 @@ use Rattle.served.specs.Served.{Served, began, called, others}
 begin-is : (w b : List ℕ) (m : Memory) (status h i : ℕ) → Begun status w b h i (lengthsOf m) → status ≡ 0 → worldOf w b m [] ≡ begin h i m
 unfolding begin setUpState
 begin-is w b m status h i g z =
-    rw (g .holds .state, pick-true (eqb (setUpStatus h i (lengthsOf m)) 0) (firstState h i (lengthsOf m)) _
-    (eq-eqb (setUpStatus h i (lengthsOf m)) 0 (sym (g .status-is) ∙ z))) refl
+    rw (
+      g .holds .state,
+      pick-true (eqb (setUpStatus h i (lengthsOf m)) 0) (firstState h i (lengthsOf m)) _
+          (eq-eqb (setUpStatus h i (lengthsOf m)) 0 (sym (g .status-is) ∙ z)),
+    ) refl
 
 -- ---- what a host holds and has had is a world that a list of calls leads to
 

@@ -14,11 +14,13 @@ returns c =
     let o = c .before .before .before .before in
     let a = o .args in
     let m = memoryOf (now (a .permanent)) (now (a .scratch)) (now (a .map)) in
-    let e = c .view-place .ensures in
-    (e, record {
-      shows = place-shows (now (a .words)) (now (a .bytes)) m (a .t) (a .object) (o .pre) _ e;
-      tells = place-tells (now (a .words)) (now (a .bytes)) m (a .t) (a .object) (o .pre) _ e;
-    })
+    let e = c .view-place .ensures in (
+      e,
+      record {
+        shows = place-shows (now (a .words)) (now (a .bytes)) m (a .t) (a .object) (o .pre) _ e;
+        tells = place-tells (now (a .words)) (now (a .bytes)) m (a .t) (a .object) (o .pre) _ e;
+      },
+    )
 
 pub scopes-view-place-spec : {M : Type 1} → statement M
 scopes-view-place-spec = tie.close (tie.spec view-place-requires returns)
