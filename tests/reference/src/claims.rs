@@ -17,6 +17,7 @@ pub fn hold(machine: &Machine, history: &History) -> Claim {
     ancestors_in_order(history)?;
     walk_is_scan(machine, history)?;
     walk_is_rule(machine, history)?;
+    objects_lie_within(machine, history)?;
     references_are_sound(machine, history)?;
     given_handles_are_exact(machine, history)
 }
@@ -112,6 +113,29 @@ fn walk_is_rule(machine: &Machine, history: &History) -> Claim {
                 format!("an object of {holder} may hold one of {target}: {allowed}")
             })?;
         }
+    }
+    Ok(())
+}
+
+/// Every live object lies within its area's used words, these within the area, and the area within
+/// its store.
+fn objects_lie_within(machine: &Machine, history: &History) -> Claim {
+    let lengths = machine.supplied.lengths();
+    for object in history.live_objects() {
+        let area = machine.state.area(object.area);
+        let handle = Handle::unpack(object.handle);
+        let store_end = if is_scope(object.area) {
+            lengths.permanent + lengths.scratch
+        } else {
+            lengths.permanent
+        };
+        let within = handle.area == object.area
+            && handle.offset + 1 + object.slots + object.data <= area.used
+            && area.used <= area.size
+            && area.first + area.size <= store_end;
+        claim(within, || {
+            format!("object {:x} does not lie within its area", object.handle)
+        })?;
     }
     Ok(())
 }

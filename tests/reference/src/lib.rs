@@ -20,3 +20,4 @@ pub mod spoil;
 pub mod stack_record;
 pub mod state;
 pub mod trial;
+pub mod values;

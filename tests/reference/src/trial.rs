@@ -8,6 +8,7 @@ use crate::history::History;
 use crate::machine::Machine;
 use crate::memory::{Lengths, Memory};
 use crate::random::Random;
+use crate::values::Values;
 
 /// Sizes of a set-up: heap, immortal, scratch.
 pub type Sizes = (u64, u64, u64);
@@ -20,6 +21,7 @@ pub struct Trial {
     pub machine: Machine,
     pub zeroed: Machine,
     pub history: History,
+    values: Values,
     random: Random,
 }
 
@@ -33,6 +35,7 @@ impl Trial {
             machine: Machine::over(heap, immortal, supplied),
             zeroed: Machine::zeroed(heap, immortal, scratch),
             history: History::new(),
+            values: Values::default(),
             random,
         }
     }
@@ -41,6 +44,8 @@ impl Trial {
     pub fn call(&mut self, call: Call) -> Claim {
         let before = self.machine.clone();
         let answer = self.machine.run(call);
+        self.value_is_told(call, answer)?;
+        self.values.step(&self.history, call, answer);
         self.history.step(call, answer);
         self.same_on_zeroed_words(call, answer)?;
         self.answer_is_allowed(call, answer)?;
@@ -59,6 +64,17 @@ impl Trial {
             return Err(format!("{answer:?}, but {other:?} on zeroed words"));
         }
         Ok(())
+    }
+
+    /// The value of an accepted load, entry or exit is the one that the calls before it tell.
+    fn value_is_told(&self, call: Call, answer: Answer) -> Claim {
+        match self.values.expected(&self.history, call) {
+            Some(value) if answer.is_accepted() && answer.value != value => Err(format!(
+                "{:x} is yielded, the list tells {value:x}",
+                answer.value
+            )),
+            _ => Ok(()),
+        }
     }
 
     /// "No op 08 in it yields 15." "a refusal and 0".

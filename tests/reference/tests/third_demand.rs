@@ -137,6 +137,24 @@ fn sees_scopes_on_a_row_that_are_no_ancestors() {
     assert!(words.contains("walk and scan differ"), "{words}");
 }
 
+#[test]
+fn sees_an_object_past_the_used_words() {
+    let words = words_after(|machine, _, _, _| machine.state.areas[3].used -= 1);
+    assert!(words.contains("does not lie within its area"), "{words}");
+}
+
+#[test]
+fn sees_used_words_past_the_area() {
+    let words = words_after(|machine, _, _, _| machine.state.areas[3].size = 2);
+    assert!(words.contains("does not lie within its area"), "{words}");
+}
+
+#[test]
+fn sees_an_area_past_its_store() {
+    let words = words_after(|machine, _, _, _| machine.state.areas[3].size = 5_000);
+    assert!(words.contains("does not lie within its area"), "{words}");
+}
+
 /// A reference from an outer object to an inner one, whose scope then empties.
 #[test]
 fn sees_a_dangling_reference() {
@@ -252,4 +270,66 @@ fn history_keeps_rows_parents_and_objects() {
     assert_eq!(handles(&history), [0; 0]);
     run(&mut machine, &mut history, 1, Op::End);
     assert_eq!(history.rows[1], None);
+}
+
+/// Thread 0 in scope 2 with an object that refers to itself; the words of the claim that fails at a
+/// last call, after a change of both machines of the trial.
+fn words_of_last(change: impl Fn(&mut Machine, u64), last: impl FnOnce(u64) -> Op) -> String {
+    let mut trial = Trial::new(1, FRAME_SIZES);
+    let mut call = |op| trial.call(Call { thread: 0, op });
+    let start = Op::Start { kind: REAL_TIME };
+    let make = Op::Make { area: 2, size: 20 };
+    for op in [
+        start,
+        make,
+        Op::Enter { area: 2 },
+        Op::Enter { area: 0 },
+        Op::Exit,
+    ] {
+        assert_eq!(call(op), Ok(()));
+    }
+    assert_eq!(call(Op::Allocate { slots: 1, data: 1 }), Ok(()));
+    let object = trial.history.objects[0].handle;
+    let (slot, target) = (0, object);
+    let store = Op::Store {
+        object,
+        slot,
+        target,
+    };
+    assert_eq!(
+        trial.call(Call {
+            thread: 0,
+            op: store
+        }),
+        Ok(())
+    );
+    change(&mut trial.machine, object);
+    change(&mut trial.zeroed, object);
+    let op = last(object);
+    let claim = trial.call(Call { thread: 0, op });
+    claim.expect_err("every claim holds")
+}
+
+/// An exit that invents the count left.
+#[test]
+fn trial_sees_another_count_left() {
+    let words = words_of_last(|machine, _| machine.state.areas[2].count = 2, |_| Op::Exit);
+    assert!(words.contains("the list tells 0"), "{words}");
+}
+
+#[test]
+fn trial_sees_another_generation() {
+    let make = |machine: &mut Machine, _| {
+        machine.state.areas[3].made = true;
+        machine.state.areas[3].generation = 6;
+    };
+    let words = words_of_last(make, |_| Op::Enter { area: 3 });
+    assert!(words.contains("7 is yielded, the list tells 1"), "{words}");
+}
+
+#[test]
+fn trial_sees_another_word_loaded() {
+    let clear = |machine: &mut Machine, _| machine.supplied.scratch[1] = 0;
+    let words = words_of_last(clear, |object| Op::Load { object, slot: 0 });
+    assert!(words.contains("0 is yielded, the list tells"), "{words}");
 }
