@@ -35,7 +35,7 @@ pub mod Traces
 pub mod ValueMeanings
 pub mod Openings
 pub mod Stored
-pub mod Answers
+pub mod LineClaims
 pub mod Theorem
 pub mod Reached
 pub mod Meanings

@@ -24,7 +24,7 @@ use Rattle.model.proofs.Outcomes.{Transition, sound-line, lineOf, step-
 use Rattle.model.proofs.Traces.{none-in, born, gone-run, among-some, area-below, open-area}
 use Rattle.model.proofs.Openings.{Opened, opened-first, opened-line}
 use Rattle.model.proofs.Stored.{Stored, stored-line}
-use Rattle.model.proofs.Answers.{AllAnswer, line-answers, each-answers}
+use Rattle.model.proofs.LineClaims.{AllAnswer, line-answers, each-answers}
 
 -- ---- one element of the list
 

@@ -69,14 +69,14 @@ served-gone {w} {b} {m} ks ls s x i = unfold run in served-claims s .gone [] x (
 
 -- ---- beside a world that is a run by itself
 
-pub record Stands (w b : List ℕ) (m : Memory) (ls : List Line) (x : World) : Type 0 where
+pub record Matches (w b : List ℕ) (m : Memory) (ls : List Line) (x : World) : Type 0 where
   pub ready : Ready w b
   pub state-is : stateOf w b ≡ x .state
   pub memory-is : m ≡ x .memory
   pub trace-is : ls ≡ x .trace
 
 pub served-world : {w b : List ℕ} {m : Memory} {ls : List Line} (s : Served w b m ls)
-    → Stands w b m ls (run (begin (served s .heap) (served s .immortal) (served s .memory)) (served s .elements))
+    → Matches w b m ls (run (begin (served s .heap) (served s .immortal) (served s .memory)) (served s .elements))
 served-world s =
     let e = served s .run-is in
     record {

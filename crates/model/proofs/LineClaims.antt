@@ -18,7 +18,7 @@ use Rattle.model.proofs.Openings.{Opened, entry-value, exit-value}
 use Rattle.model.proofs.Stored.{Stored, load-value}
 
 -- the claims of one line
-pub record Answers (l : Line) (before : List Line) : Type 0 where
+pub record LineClaims (l : Line) (before : List Line) : Type 0 where
   pub loads : (t p q : ℕ) → l .call ≡ load t p q → l .reply .status ≢ 15
   pub loaded : (t p q : ℕ) → l .call ≡ load t p q → l .reply .status ≡ 0 → l .reply .value ≡ lastStored p q before
   pub entries : (t q : ℕ) → l .call ≡ enter t q → l .reply .status ≡ 0 → l .reply .value ≡ entryGeneration q before
@@ -41,7 +41,7 @@ module _ (s : State) (m : Memory) (ls : List Line) (o : Sound s m (historyOf ls)
       let x : Accepts s m l n k = accepts d z in
       rw (← e) (x .passed, x .value)
 
-  pub line-answers : Answers l ls
+  pub line-answers : LineClaims l ls
   line-answers = record {
     loads = not-15;
     loaded = λ t p q e z. let x = value-is (load t p q) e z in x .1 ∙ load-value s m ls o w t p q (x .0);
@@ -54,8 +54,8 @@ module _ (s : State) (m : Memory) (ls : List Line) (o : Sound s m (historyOf ls)
 -- each line of a trace answers by the lines before it
 abbrev pub AllAnswer : List Line → Type 0
 AllAnswer [] = Unit {0}
-AllAnswer (l ∷ ls) = Answers l ls × AllAnswer ls
+AllAnswer (l ∷ ls) = LineClaims l ls × AllAnswer ls
 
-pub each-answers : {l : Line} {before ls : List Line} → Follows l before ls → AllAnswer ls → Answers l before
+pub each-answers : {l : Line} {before ls : List Line} → Follows l before ls → AllAnswer ls → LineClaims l before
 each-answers newest k = k .0
 each-answers (older i) k = each-answers i (k .1)
