@@ -7,7 +7,7 @@ use mathlib.Core.Logic.{_≢_, _⊎_, inl, inr, ⊎-elim}
 use lib.Dec.{eqb}
 use native.Mathlib.Omega.{arith}
 use borrow.Author.Tests.{eqb-true, eqb-false, eq-eqb, ne-eqb}
-use Rattle.layout.specs.Choice.{pick, cases, hit}
+use Rattle.layout.specs.Choice.{pick, cases, hit, skip}
 use Rattle.model.specs.State.{State, Memory}
 use Rattle.model.specs.Checks.{fits, fitted}
 use Rattle.model.specs.Calls.{Call, start, end, make, enter, exit, allocate, store, load, write, read, view, viewed, callStatus, callValue, callState, callMemory, outcomeOf}
@@ -75,9 +75,14 @@ transition s m c = cases (eqb (callStatus s m c) 0)
 data IsView : Call → Type 0 where
   is-view : (t p : ℕ) → IsView (view t p)
 
+-- lent a memory of the lengths of set-up: the rest of the refusals counts
+pub fit-fitted : (s : State) (m : Memory) → fits s m ≡ true → (rest : ℕ) → fitted s m rest ≡ rest
+unfolding fitted
+fit-fitted s m f rest = skip (not (fits s m)) 1 rest (ap not f)
+
 -- lent a memory of other lengths: it is refused by 1, or is a view, which shows no part; and nothing changes
 module _ (s : State) (n : Memory) (u : fits s n ≡ false) where
-  unfit-fitted : (rest : ℕ) → fitted s n rest ≡ 1
+  pub unfit-fitted : (rest : ℕ) → fitted s n rest ≡ 1
   unfolding fitted
   unfit-fitted rest = hit (not (fits s n)) 1 _ (ap not u)
 

@@ -100,8 +100,11 @@ pub record Outcome : Type 0 where
   pub memory : Memory
 
 -- "Each call gives status 0 and a value, or a refusal and 0." "A refusal yields 0 and alters no state and no lent word."
+abbrev pub settled : State → Memory → Effect → Outcome
+settled s m x =
+    pick (eqb (x .status) 0)
+    (record { reply = record { status = 0; value = x .value; words = x .words }; state = x .state; memory = x .memory })
+    (record { reply = record { status = x .status; value = 0; words = [] }; state = s; memory = m })
+
 unfoldable pub outcomeOf : State → Memory → Call → Outcome
-outcomeOf s m c =
-    pick (eqb (callStatus s m c) 0)
-    (record { reply = record { status = 0; value = callValue s m c; words = callWords s m c }; state = callState s m c; memory = callMemory s m c })
-    (record { reply = record { status = callStatus s m c; value = 0; words = [] }; state = s; memory = m })
+outcomeOf s m c = settled s m (effectOf s m c)
