@@ -42,9 +42,13 @@ pub record Change : Type 0 where
   pub value : ℕ
   pub state : State
 
--- "5: rights table has 0": the right of thread t's kind in the class of area a
+-- "5: rights table has 0": the right of a kind in the class of area a
+abbrev pub kindMay : State → ℕ → Right → ℕ → Bool
+kindMay s kind right a = allows kind (classOf a) right
+
+-- of thread t's kind
 unfoldable pub hasRight : State → ℕ → Right → ℕ → Bool
-hasRight s t right a = allows (threadAt s t .kind) (classOf a) right
+hasRight s t right a = kindMay s (threadAt s t .kind) right a
 
 -- the header that a handle leads to
 abbrev pub headerAt : State → Memory → ℕ → ℕ

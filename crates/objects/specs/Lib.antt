@@ -3,4 +3,3 @@ pub mod Found
 pub mod Places
 pub mod Steps
 pub mod Stores
-pub mod Rights
