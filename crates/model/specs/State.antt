@@ -90,8 +90,11 @@ abbrev pub isScope : ℕ → Bool
 isScope a = leb 2 a
 
 -- heap and immortal are always there; a scope that is made has a size above 0, by refusal 8
+abbrev pub madeAs : Area → ℕ → Bool
+madeAs x a = ltb a 2 || ltb 0 (x .size)
+
 unfoldable pub isMade : State → ℕ → Bool
-isMade s a = ltb a 2 || ltb 0 (areaAt s a .size)
+isMade s a = madeAs (areaAt s a) a
 
 -- "A scope is open while its count of entries is above 0."
 abbrev pub isOpen : State → ℕ → Bool

@@ -9,6 +9,7 @@ use model::Lengths;
 ghost use mathlib.Core.Path.{_≡_};
 ghost use Prim.Native.Nat.{_<_};
 ghost use lib.ListN.{getD};
+ghost use Rattle.model.specs.State.{madeAs};
 ghost use Rattle.tables.specs.Decode.{areaOf, putArea, putTaken, lengthsOf, putLengths};
 
 // The two tables.
@@ -46,6 +47,17 @@ pub fn put_area(words: &mut Words, a: usize, x: Area)
     words[i + 4] = x.count;
     words[i + 5] = x.parent;
     words[i + 6] = x.depth;
+}
+
+// Whether area a, whose record is x, is made: heap and immortal are always there, and a scope that is
+// made has a size above 0.
+pub fn is_made(x: Area, a: u64) -> bool
+    ensures { λ r. ⌜ r ≡ madeAs x a ⌝ }
+{
+    if a < 2 {
+        return true;
+    }
+    0 < x.size
 }
 
 // ---- lengths and scratch

@@ -1,7 +1,7 @@
--- `areas::make::is_made` meets its contract. Assumes nothing.
+-- `tables::is_made` meets its contract. Assumes nothing.
 use borrow.Author.Tests.{lt-ltb, le-ltb}
-use Rattle.areas.proofs.make.is_made.Statement.{statement}
-use Rattle.areas.proofs.make.is_made.Tie as tie
+use Rattle.tables.proofs.is_made.Statement.{statement}
+use Rattle.tables.proofs.is_made.Tie as tie
 
 returns : tie.Need-returns
 returns c = simp (lt-ltb _ _ (c .if1 .taken))
