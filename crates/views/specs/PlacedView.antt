@@ -5,7 +5,6 @@ use mathlib.Core.List.{List}
 use mathlib.Core.Path.{_≡_}
 use lib.Dec.{eqb}
 use lib.ListN.{take, drop}
-use denote.Ref.{now}
 use Rattle.layout.specs.Choice.{pick}
 use Rattle.layout.specs.Handle.{areaOf}
 use Rattle.layout.specs.Header.{dataOf}
@@ -14,7 +13,7 @@ use Rattle.model.specs.Checks.{headerAt}
 use Rattle.model.specs.References.{placeAfter}
 use Rattle.model.specs.Data.{dataIndex, viewStatus}
 use Rattle.model.specs.Calls.{view, viewed}
-use Rattle.tables.specs.Contract.{memoryOf, Borrowed, plain, viewReply, Replies}
+use Rattle.tables.specs.Contract.{Borrowed, supplied, plain, viewReply, Replies}
 use Rattle.views.specs.declared.ViewPlace.{ViewPlace}
 
 -- "shown as a part of the permanent or scratch store itself": of two things, one for each store, that of the store that is shown a part of:
@@ -40,9 +39,13 @@ viewPlaceOf s m t p = record {
 }
 
 -- a part that begins there, from where the two stores begin: in "the permanent or scratch store itself", 8 bytes to a word
-pub record PlacedView (slice permanent scratch : ℕ × ℕ) (s : State) (m : Memory) (t p : ℕ) : Type 0 where
+pub record PlacedAt (slice permanent scratch : ℕ × ℕ) (s : State) (m : Memory) (t p : ℕ) : Type 0 where
   pub store-is : slice .0 ≡ viewStore s m t p permanent scratch .0
   pub place-is : slice .1 ≡ viewFrom s m t p * 8 + viewStore s m t p permanent scratch .1
+
+-- the same over the stores that a function is lent
+abbrev pub PlacedView : ℕ × ℕ → Borrowed → Borrowed → State → Memory → ℕ → ℕ → Type 0
+PlacedView slice permanent scratch s m t p = PlacedAt slice (permanent .entry .ptr) (scratch .entry .ptr) s m t p
 
 -- the words that lie at a place
 abbrev pub wordsThere : ViewPlace → Memory → List ℕ
@@ -50,6 +53,6 @@ wordsThere r m = take (r .len) (drop (r .from) (pick (eqb (r .store) 0) (m .perm
 
 -- one place answers both calls: the words there are what the view shows, and the status is that of the call beside it
 pub record PlaceAnswers (r : ViewPlace) (words bytes permanent scratch map : Borrowed) (t p : ℕ) : Type 0 where
-  pub shows : Replies (viewReply (wordsThere r (memoryOf (now (permanent .entry)) (now (scratch .entry)) (now (map .entry)))))
+  pub shows : Replies (viewReply (wordsThere r (supplied permanent scratch map)))
       words bytes permanent scratch map (view t p)
   pub tells : Replies (plain (r .status) 0) words bytes permanent scratch map (viewed t p)

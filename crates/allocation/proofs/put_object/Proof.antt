@@ -1,4 +1,4 @@
--- `lay_object` meets its contract: each branch writes the store that the test picks.
+-- `put_object` meets its contract: each branch writes the store that the test picks.
 use mathlib.Core.List.{List}
 use Prim.Native.Nat.{ℕ}
 use borrow.Author.Needs.{needs}
@@ -6,8 +6,8 @@ use borrow.Author.Tests.{le-leb, lt-leb}
 use denote.Ref.{now}
 use Rattle.model.specs.Objects.{objectWords}
 use Rattle.objects.specs.Stores.{stored-permanent, stored-scratch}
-use Rattle.allocation.proofs.lay_object.Statement.{statement}
-use Rattle.allocation.proofs.lay_object.Tie as tie
+use Rattle.allocation.proofs.put_object.Statement.{statement}
+use Rattle.allocation.proofs.put_object.Tie as tie
 
 write-object-requires : tie.Need-write-object-requires
 write-object-requires c κs = rw (lt-leb 2 (c .before .before .before .before .args .area) (c .before .if1 .taken)) at (c .before .before .before .before .pre)
@@ -33,8 +33,8 @@ returns-2 c =
     rw (c .before .before .write-object2 .ensures)
     (stored-scratch (now (a .permanent)) (now (a .scratch)) (a .area) (λ (l : List ℕ). objectWords l (a .at) (a .slots) (a .words)) (c .before .before .before .before .if1 .left))
 
-pub lay-object-spec : {M : Type 1} → statement M
-lay-object-spec =
+pub put-object-spec : {M : Type 1} → statement M
+put-object-spec =
     tie.close
     (tie.spec
     write-object-requires
