@@ -9,7 +9,7 @@ use Rattle.objects.specs.declared.check.Checked.{Checked}
 use Rattle.objects.specs.declared.check.Checked.the-variants.{Object, Refused}
 
 -- the number of each case
-abbrev pub numberOf   : Checked → ℕ
+abbrev pub numberOf : Checked → ℕ
 numberOf (Object o) = 0
 numberOf (Refused n) = n
 
