@@ -16,7 +16,7 @@ use Rattle.model.specs.State.{State, Memory, noArea, noThread, areaAt, s
 use Rattle.model.specs.SetUp.{setUpStatus, newThread, firstState, setUpState}
 use Rattle.model.specs.Calls.{Call, start, end, make, enter, exit, allocate, store, load, write, read, view, viewed, callStatus, callState, outcomeOf}
 use Rattle.model.specs.History.{occurrences, total}
-use Rattle.model.specs.Invariant.{scopesOf, ThreadGood, StandingGood, ScopeGood, Placed, stacksIn, Good}
+use Rattle.model.specs.Invariant.{ThreadGood, StandingGood, ScopeGood, Placed, stacksIn, Good}
 use Rattle.model.proofs.Accepted.{start-ok, end-ok, make-ok, enter-ok, exit-ok, allocate-ok}
 use Rattle.model.proofs.Lists.{each-replicate}
 use Rattle.model.proofs.KeepsThreads.{good-start, good-end}
@@ -125,7 +125,7 @@ module _ (h i : ℕ) (n : Lengths) where
     nesting = rw first-stacks record {
       size = refl;
       counts = λ a k l. first-area a .count ∙ sym (none-on a);
-      nested = λ t k. rw (getD-replicate {A = List ℕ} 16 t [] [] k) (unfold scopesOf in tt);
+      nested = λ t k. rw (getD-replicate {A = List ℕ} 16 t [] [] k) tt;
     };
   }
 

@@ -15,9 +15,9 @@ use Rattle.layout.specs.StackLaws.{length-down, down-push}
 use Rattle.model.specs.declared.Area.{Area}
 use Rattle.model.specs.State.{Thread, State, Memory, noThread, areaAt, rowAt, threadAt, withArea, withRow, withThread, stackOf, stackAt, innermost, isMade, displayAt}
 use Rattle.model.specs.Scopes.{reentered, opened, enteredArea, pushed, enterState}
-use Rattle.model.specs.Invariant.{scopesOf, Nesting, ThreadGood, ScopeGood, parentIn, countIn, stacksIn, Good}
+use Rattle.model.specs.Invariant.{branchOf, Nesting, ThreadGood, ScopeGood, parentIn, countIn, stacksIn, Good}
 use Rattle.model.proofs.Accepted.{EnterOk}
-use Rattle.model.proofs.Lists.{length-scopes, map-set}
+use Rattle.model.proofs.Lists.{scopes-order, order-length, map-set}
 use Rattle.model.proofs.Nesting.{enter-low, enter-open, enter-fresh}
 use Rattle.model.proofs.Parts.{area-same, area-other, row-same, row-other, thread-same, thread-other, stack-is, inner-is, display-same, seen, nesting-same, Parts, parts-of, good-of, parts-thread, parts-row, parts-area}
 use Rattle.model.proofs.Stacks.{length-stack, stack-push, pushed-good}
@@ -136,7 +136,7 @@ module _ (s : State) (m : Memory) (t q : ℕ) (g : Good s) (ok : EnterOk s m t q
     ok .room,
     ap length (inner-display s g t (ok .called .thread)),
     length-down (rowAt s (innermost (stackAt s t))) (areaAt s (innermost (stackAt s t)) .depth),
-    length-scopes (getD (stacksIn s) t []),
+    order-length (scopes-order (getD (stacksIn s) t [])),
     ap length (stack-is s t),
     length-stack (threadAt s t),
   )
@@ -148,7 +148,7 @@ module _ (s : State) (m : Memory) (t q : ℕ) (g : Good s) (ok : EnterOk s m t q
   fresh-length = length-set (rowAt s (innermost (stackAt s t))) (areaAt s (innermost (stackAt s t)) .depth) q ∙ inner-row
 
   -- the display of a scope that opens
-  pub fresh-display : 2 ≤ q → areaAt s q .count ≡ 0 → displayAt (enterState s t q) q ≡ q ∷ scopesOf (getD (stacksIn s) t [])
+  pub fresh-display : 2 ≤ q → areaAt s q .count ≡ 0 → displayAt (enterState s t q) q ≡ q ∷ branchOf (getD (stacksIn s) t [])
   unfolding displayAt
   fresh-display h z = rw (enter-fresh-area s t q g (ok .area) h z, enter-fresh-row s t q g (ok .area) h z)
       (down-push (rowAt s (innermost (stackAt s t))) (areaAt s (innermost (stackAt s t)) .depth) q (omega (arith, inner-depth, inner-row))

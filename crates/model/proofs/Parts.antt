@@ -13,9 +13,9 @@ use Rattle.layout.specs.Choice.{cases}
 use Rattle.layout.specs.Stack.{down}
 use Rattle.model.specs.declared.Area.{Area}
 use Rattle.model.specs.declared.Lengths.{Lengths}
-use Rattle.model.specs.State.{Thread, State, noArea, noThread, areaAt, rowAt, threadAt, withArea, withRow, withThread, withTaken, stackOf, stackAt, innermost, current, displayAt}
+use Rattle.model.specs.State.{Thread, State, noArea, noThread, areaAt, rowAt, threadAt, withArea, withRow, withThread, withTaken, stackOf, stackAt, innermost, displayAt}
 use Rattle.model.specs.History.{total}
-use Rattle.model.specs.Invariant.{scopesOf, Nesting, ThreadGood, Each, StandingGood, ScopeGood, Placed, parentIn, countIn, stacksIn, Good}
+use Rattle.model.specs.Invariant.{branchOf, firstOf, Nesting, ThreadGood, Each, StandingGood, ScopeGood, Placed, parentIn, countIn, stacksIn, Good}
 use Rattle.model.proofs.Lists.{innermost-is, each-set}
 use Rattle.model.proofs.Nesting.{nested-frame}
 
@@ -54,8 +54,8 @@ module _ (s : State) where
   unfolding stackOf down
   stack-is t = List·getD-map stackOf (s .threads) t noThread
 
-  -- the innermost scope of a stack is the first of its scopes
-  pub inner-is : (t : ℕ) → innermost (stackAt s t) ≡ current (scopesOf (getD (stacksIn s) t []))
+  -- the innermost scope of a stack is the first of its branch
+  pub inner-is : (t : ℕ) → innermost (stackAt s t) ≡ firstOf (branchOf (getD (stacksIn s) t []))
   inner-is t = rw stack-is (innermost-is (stackAt s t))
 
   -- a display goes by the area's depth and its row
@@ -73,7 +73,7 @@ pub nesting-same : {par par′ : ℕ → ℕ} {dis dis′ : ℕ → List ℕ} {c
 nesting-same {par} {par′} {dis} {dis′} {rows = rows} v f c e = record {
   size = ap length e ∙ v .size;
   counts = λ a h k. c a ∙ v .counts a h k ∙ ap (total a) (sym e);
-  nested = λ t h. rw e (nested-frame par par′ dis dis′ (scopesOf (getD rows t [])) (λ a x. f a) (v .nested t h));
+  nested = λ t h. rw e (nested-frame par par′ dis dis′ (getD rows t []) (λ a x. f a) (v .nested t h));
 }
 
 -- ---- the invariant without its nesting
