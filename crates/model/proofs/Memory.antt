@@ -10,10 +10,9 @@ use native.Mathlib.Omega.{arith}
 use borrow.Author.Tests.{eqb-true, eqb-false, eq-eqb, ne-eqb}
 use Rattle.layout.specs.Choice.{cases}
 use Rattle.layout.specs.Handle.{handleOf, areaOf}
-use Rattle.layout.specs.Header.{headerOf}
 use Rattle.model.specs.History.{Object, occurrences, handles, putAt}
-use Rattle.model.proofs.Lists.{occ-same, occ-other}
-use Rattle.model.proofs.Tiles.{place, Tile, Tiled, tiled-frame, tiled-store, tiled-data, tiled-push}
+use Rattle.model.proofs.Lists.{occ-more}
+use Rattle.model.proofs.Tiles.{place, Header, Tile, Tiled, tiled-frame, tiled-store, tiled-data, tiled-push}
 
 -- an object of area a may refer to area c
 abbrev pub Reach : (ℕ → List ℕ) → ℕ → ℕ → Type 0
@@ -107,10 +106,10 @@ module _ {dis : ℕ → List ℕ} {cnt used generation : ℕ → ℕ} {wd : ℕ 
 
   -- one word of area b is replaced, a data word of the object with handle h
   pub mem-data : (b p h : ℕ) (wd′ : ℕ → ℕ → ℕ)
-      → ((o : Object) → o .handle ≡ h → wd b (place o) ≡ headerOf (o .slots) (o .words) → o .slots + o .words < 16384 → (place o + o .slots < p) × (p ≤ place o + o .slots + o .words))
-      → used b ≤ 16384 → 0 < occurrences h (handles (objects b))
+      → ((o : Object) → o .handle ≡ h → Header (wd b (place o)) o → (place o + o .slots < p) × (p ≤ place o + o .slots + o .words))
+      → 0 < occurrences h (handles (objects b))
       → ((a j : ℕ) → a < 64 → j < used a → (a ≡ b → j ≡ p → ⊥) → wd′ a j ≡ wd a j) → Mem dis cnt used generation wd′ bit objects
-  mem-data b p h wd′ d y k f = record {
+  mem-data b p h wd′ d k f = record {
     tiles = λ a l. cases (eqb a b)
         (λ q. here a l (eqb-true a b q))
         (λ q. tiled-frame (wd a) (wd′ a) (bit a) (bit a) (Ok objects dis a) (Ok objects dis a) (λ o. handleOf o a (generation a)) (objects a) (used a)
@@ -119,7 +118,7 @@ module _ {dis : ℕ → List ℕ} {cnt used generation : ℕ → ℕ} {wd : ℕ 
   }
     where
       here : (a : ℕ) → a < 64 → a ≡ b → Tiled (wd′ a) (bit a) (Ok objects dis a) (λ o. handleOf o a (generation a)) (objects a) (used a)
-      here a l q = tiled-data (wd a) (wd′ a) (bit a) (Ok objects dis a) (λ o. handleOf o a (generation a)) p h (rw q d) (objects a) (used a) (rw q y)
+      here a l q = tiled-data (wd a) (wd′ a) (bit a) (Ok objects dis a) (λ o. handleOf o a (generation a)) p h (rw q d) (objects a) (used a)
           (λ j i ne. f a j l i (λ x y. ne y)) (rw q k) (m .tiles a l)
 
   -- an object is made on top of area b
@@ -146,15 +145,10 @@ module _ {dis : ℕ → List ℕ} {cnt used generation : ℕ → ℕ} {wd : ℕ 
       names : (a w : ℕ) → Named objects dis a w → Named next dis a w
       names a w n = record {
         given = cases (eqb (areaOf w) b)
-            (λ q. rw (eqb-true (areaOf w) b q, put-same objects b (o ∷ objects b)) (more w (rw (eqb-true (areaOf w) b q) at (n .given))))
+            (λ q. rw (eqb-true (areaOf w) b q, put-same objects b (o ∷ objects b)) (occ-more w (o .handle) (handles (objects b)) (rw (eqb-true (areaOf w) b q) at (n .given))))
             (λ q. rw (put-other objects b (o ∷ objects b) (areaOf w) (eqb-false (areaOf w) b q)) (n .given));
         reach = n .reach;
       }
-        where
-          more : (w : ℕ) → 0 < occurrences w (handles (objects b)) → 0 < occurrences w (handles (o ∷ objects b))
-          more w p = cases (eqb (o .handle) w)
-              (λ d. rw (eqb-true (o .handle) w d, occ-same w (handles (objects b))) (omega arith))
-              (λ d. rw (occ-other w (o .handle) (handles (objects b)) (eqb-false (o .handle) w d)) p)
 
       tile : Tile (wd′ b) (bit′ b) (Ok next dis b) (λ x. handleOf x b (generation b)) o (suc (used b + o .slots + o .words))
       tile = record { made = t .made; ends = t .ends; head = t .head; on = t .on; off = t .off; refs = λ j h. inl (t .refs j h) }

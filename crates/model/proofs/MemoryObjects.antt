@@ -13,7 +13,7 @@ use borrow.Author.Tests.{ltb-true, ltb-false, eqb-true, eqb-false}
 use Rattle.layout.specs.Choice.{cases}
 use Rattle.layout.specs.Handle.{handleOf, areaOf}
 use Rattle.layout.specs.Header.{headerOf}
-use Rattle.layout.specs.HandleLaws.{offset-packed}
+use Rattle.layout.specs.HandleLaws.{offset-packed, slots-packed, data-packed}
 use Rattle.bitmap.specs.Bitmap.{bitAt, withBit, cleared}
 use Rattle.bitmap.specs.BitmapLaws.{length-cleared, bit-with-same, bit-with-other, cleared-inside, cleared-outside}
 use Rattle.model.specs.declared.Area.{Area}
@@ -23,7 +23,7 @@ use Rattle.model.specs.Objects.{currentAt, grown, filled, objectWords, o
 use Rattle.model.specs.History.{Object, History, putAt, historyAllocate}
 use Rattle.model.specs.Invariant.{countIn, Good}
 use Rattle.model.proofs.Accepted.{AllocateOk}
-use Rattle.model.proofs.Tiles.{place, Tile}
+use Rattle.model.proofs.Tiles.{place, Header, Tile}
 use Rattle.model.proofs.Memory.{mem-cong, mem-alloc, put-other}
 use Rattle.model.proofs.Sound.{Same, usedIn, generationIn, bitIn, Sound}
 use Rattle.model.proofs.PlacedWords.{size-room, used-in, one-word, one-place, word-in, bit-in, replaced, read-same, store-fits, fits-also}
@@ -53,6 +53,13 @@ filled-in l p (suc n) v k h c = cases (eqb k n)
     (λ e. getD-set-other (filled l p n v) (p + n) (p + k) v 0 (λ z. eqb-false k n e (omega arith)) ∙ filled-in l p n v k (omega arith) (omega (arith, eqb-false k n e)))
 
 -- ---- the words of an object at a place of a store
+
+header-made : (slots words : ℕ) → slots + words < 16384 → {h : ℕ} → Header (headerOf slots words) (record { handle = h; slots = slots; words = words })
+header-made slots words small = record {
+  slots = slots-packed slots words (omega arith);
+  words = data-packed slots words (omega arith) (omega arith);
+  top = unfold headerOf in omega arith;
+}
 
 module _ (l : List ℕ) (at slots words : ℕ) where
   length-object : length (objectWords l at slots words) ≡ length l
@@ -173,7 +180,8 @@ module _ (s : State) (m : Memory) (b : History) (o : Sound s m b) (c slots words
   made-tile = record {
     made = value ∙ ap (λ (y : ℕ). handleOf y c (generationIn s c)) (sym at-place);
     ends = ap (λ (y : ℕ). suc (y + slots + words)) at-place;
-    head = rw at-place (word-here (usedIn s c) ∙ object-head (storeOf m c) (areaAt s c .start + usedIn s c) slots words (omega (arith, words-in)));
+    head = rw (at-place, word-here (usedIn s c), object-head (storeOf m c) (areaAt s c .start + usedIn s c) slots words (omega (arith, words-in)))
+        (header-made slots words (omega (arith, size-room s (o .good .placed) c hc)));
     on = rw at-place (bit-here (usedIn s c) ∙ ap (λ (x : ℕ). eqb x 1) (bits-head (m .map) (bitIndex s c (usedIn s c)) (slots + words) bits-in));
     off = λ j p q. bit-here j ∙ ap (λ (x : ℕ). eqb x 1)
         (bits-inside (m .map) (bitIndex s c (usedIn s c)) (slots + words) bits-in (bitIndex s c j) (omega (arith, at-place)) (omega arith));

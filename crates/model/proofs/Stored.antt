@@ -67,10 +67,10 @@ module _ (s : State) (m : Memory) (b : History) (o : Sound s m b) where
     target-handle = given-tile s m b o p is-given .2
 
     target-slots : slotsOf (headerAt s m p) ≡ target .slots
-    target-slots = given-head s m b o p is-given .0
+    target-slots = given-head s m b o p is-given .slots
 
     target-words : dataOf (headerAt s m p) ≡ target .words
-    target-words = given-head s m b o p is-given .1
+    target-words = given-head s m b o p is-given .words
 
     -- a slot of another object, or another word of p's, is as it was
     other-slot : (i v : ℕ) → i < target .slots + target .words → (a : ℕ) (x : Object) → In x (b .objects a) → (j : ℕ) → j < x .slots
