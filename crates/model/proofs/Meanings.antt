@@ -14,7 +14,7 @@ use Rattle.layout.specs.Handle.{offsetOf}
 use Rattle.model.specs.State.{State, Memory, areaAt, current, storeOf}
 use Rattle.model.specs.Calls.{Call, start, end, make, enter, exit, allocate, store, load, write, read, view, viewed}
 use Rattle.model.specs.Run.{Line, World}
-use Rattle.model.specs.History.{Object, History, rowOf, below, occurrences, handles, isScopeOnNone, historyStart, historyEnter, historyExit, historyAllocate, historyStep, historyLine, historyOf}
+use Rattle.model.specs.History.{Object, History, rowOf, below, occurrences, handles, isScopeOnNone, historyStart, historyEnter, historyExit, historyAllocate, historyStep, historyLine, historyFrom, historyOf}
 use Rattle.model.specs.Claims.{Open, Walk, ends, goes, Meets, here, up, InOrder, none, keep, skip, onRow, scan, In, Among, Within, Allocates, Since, made, stays, Names, Claims}
 use Rattle.model.proofs.Lists.{on-one, occ-le-total, occ-nil, occ-other}
 use Rattle.model.proofs.Memory.{put-same, put-other}
@@ -242,7 +242,7 @@ current-among (x ∷ r) h = Among.first
 
 -- the area that an allocation allocates in is open, if it is a scope
 allocated-open : {x a : ℕ} {l : Line} (ls : List Line) → Allocates (historyOf ls) l x a → 2 ≤ a → Open (historyOf (l ∷ ls)) a
-unfolding historyOf historyLine historyAllocate
+unfolding historyFrom historyLine historyAllocate
 allocated-open {a = a} ls k h =
     rw (k .accepted, k .call) (open-is (historyOf ls) a .1 (h, (k .thread, rw (k .area) at (current-among (rowOf (historyOf ls) (k .thread)) (rw (k .area) h)))))
 

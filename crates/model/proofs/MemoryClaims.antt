@@ -20,7 +20,7 @@ use Rattle.model.proofs.Lists.{occ-same}
 use Rattle.model.proofs.Tiles.{Tile, tiled-in, handles-in, tiled-one}
 use Rattle.model.proofs.Memory.{Ok}
 use Rattle.model.proofs.Sound.{usedIn, generationIn, bitIn, Sound}
-use Rattle.model.proofs.PlacedWords.{area-inside, store-length}
+use Rattle.model.proofs.PlacedWords.{inside, store-length}
 use Rattle.model.proofs.Live.{tile-parts, given-live}
 use Rattle.model.proofs.MemoryWords.{slot-ok}
 
@@ -64,7 +64,7 @@ module _ (s : State) (m : Memory) (b : History) (o : Sound s m b) where
         number = h;
         ends = omega (arith, t .1 .ends, t .2);
         used = o .good .placed .used a h;
-        inside = rw (store-length s m (o .supplied) a) (area-inside s (o .good .placed) a h);
+        inside = rw (store-length s m (o .supplied) a) (inside s (o .good .placed) a h);
       }
 
   pub one-object : (a c : ℕ) (x y : Object) → a < 64 → c < 64 → In x (b .objects a) → In y (b .objects c) → x .handle ≡ y .handle → (a ≡ c) × (x ≡ y)

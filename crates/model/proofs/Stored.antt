@@ -22,7 +22,7 @@ use Rattle.model.specs.References.{storeAfter, loadStatus}
 use Rattle.model.specs.Data.{dataIndex}
 use Rattle.model.specs.Calls.{Call, start, end, make, enter, exit, allocate, store, load, write, read, view, viewed, callStatus, callValue, callState, callMemory}
 use Rattle.model.specs.Run.{Line}
-use Rattle.model.specs.History.{Object, History, occurrences, handles, historyStart, historyEnter, historyAllocate, historyStep, historyOf}
+use Rattle.model.specs.History.{Object, History, occurrences, handles, historyStart, historyEnter, historyAllocate, historyStep, historyFrom, historyOf}
 use Rattle.model.specs.Values.{storedStep, lastStored}
 use Rattle.model.specs.Claims.{In}
 use Rattle.model.proofs.Accepted.{AllocateOk, allocate-ok, SlotOk, slot-ok, StoreOk, store-ok, DataOk, data-ok}
@@ -176,7 +176,7 @@ Stored s m ls = Slots s m (historyOf ls) (λ h j. lastStored h j ls)
 
 module _ (s : State) (m : Memory) (ls : List Line) (o : Sound s m (historyOf ls)) (w : Stored s m ls) where
   pub stored-line : {l : Line} {n : State} {k : Memory} → Transition s m l n k → Sound n k (historyOf (l ∷ ls)) → Stored n k (l ∷ ls)
-  unfolding historyOf
+  unfolding historyFrom
   stored-line {l} d z a x i j u = ⊎-elim
       (λ y. rw (stored-accepted l ls (y .status) (x .handle) j (l .call) refl, y .state, y .memory, y .value)
       (slots-call s m (historyOf ls) o (λ h j. lastStored h j ls) w (l .call) (y .passed)

@@ -13,7 +13,7 @@ use Rattle.layout.specs.Choice.{cases}
 use Rattle.model.specs.State.{State, Memory, current, isOpen}
 use Rattle.model.specs.Calls.{Call, start, end, make, enter, exit, allocate, store, load, write, read, view, viewed}
 use Rattle.model.specs.Run.{Element, Line, World, step, run}
-use Rattle.model.specs.History.{Object, History, rowOf, putAt, below, occurrences, handles, isScopeOnNone, historyStart, historyEnter, historyExit, historyAllocate, historyStep, historyLine, historyOf}
+use Rattle.model.specs.History.{Object, History, rowOf, putAt, below, occurrences, handles, isScopeOnNone, historyStart, historyEnter, historyExit, historyAllocate, historyStep, historyLine, historyFrom, historyOf}
 use Rattle.model.specs.Claims.{Open, In, Among, Allocates}
 use Rattle.model.specs.Invariant.{countIn}
 use Rattle.model.proofs.Lists.{occ-same, occ-other}
@@ -128,14 +128,14 @@ gone-line b l x i = cases (eqb (l .reply .status) 0) (λ e. rw e (gone-step b (l
 
 -- with any lines more
 pub gone-onto : (ks ls : List Line) (x : ℕ) → Among x (historyOf ls .gone) → Among x (historyOf (ks ++ ls) .gone)
-unfolding historyOf
+unfolding historyFrom
 gone-onto [] ls x i = i
 gone-onto (k ∷ ks) ls x i = gone-line (historyOf (ks ++ ls)) k x (gone-onto ks ls x i)
 
 pub gone-run : (w : World) (es : List Element) (x : ℕ) → Among x (historyOf (w .trace) .gone) → Among x (historyOf (run w es .trace) .gone)
 unfolding run
 gone-run w [] x i = i
-gone-run w (e ∷ es) x i = gone-run (step w e) es x (unfold step historyOf in gone-line (historyOf (w .trace)) _ x i)
+gone-run w (e ∷ es) x i = gone-run (step w e) es x (unfold step historyFrom in gone-line (historyOf (w .trace)) _ x i)
 
 pub among-some : {x : ℕ} {l : List ℕ} → Among x l → 0 < occurrences x l
 among-some {x} (Among.first {l = l}) = omega (arith, occ-same x l)

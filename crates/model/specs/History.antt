@@ -107,7 +107,11 @@ historyStep b (viewed t p) v = b
 unfoldable pub historyLine : History → Line → History
 historyLine b l = pick (eqb (l .reply .status) 0) (historyStep b (l .call) (l .reply .value)) b
 
--- the book after the lines of a list, the newest first
-unfoldable pub historyOf : List Line → History
-historyOf [] = blank
-historyOf (l ∷ ls) = historyLine (historyOf ls) l
+-- the history after the lines of a list, the newest first, where b is what went before
+unfoldable pub historyFrom : History → List Line → History
+historyFrom b [] = b
+historyFrom b (l ∷ ls) = historyLine (historyFrom b ls) l
+
+-- ".. empty at set-up"
+abbrev pub historyOf : List Line → History
+historyOf ls = historyFrom blank ls

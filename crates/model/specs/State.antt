@@ -112,6 +112,10 @@ displayHolds s a b = leb (areaAt s a .depth) (areaAt s b .depth) && rowHolds (ro
 abbrev pub storeOf : Memory → ℕ → List ℕ
 storeOf m a = pick (isScope a) (m .scratch) (m .permanent)
 
+-- its length, by set-up
+abbrev pub storeLength : State → ℕ → ℕ
+storeLength s a = pick (isScope a) (s .lengths .scratch) (s .lengths .permanent)
+
 unfoldable pub withStore : Memory → ℕ → List ℕ → Memory
 withStore m a l = record { permanent = pick (isScope a) (m .permanent) l; scratch = pick (isScope a) l (m .scratch); map = m .map }
 
