@@ -51,6 +51,33 @@ rowAt s a = getD (s .rows) a []
 abbrev pub threadAt : State → ℕ → Thread
 threadAt s t = getD (s .threads) t noThread
 
+-- ---- an area with a number replaced
+
+abbrev pub withWords : Area → ℕ → ℕ → Area
+withWords x start size = record { start = start; size = size; used = x .used; generation = x .generation; count = x .count; parent = x .parent; depth = x .depth }
+
+abbrev pub withUsed : Area → ℕ → Area
+withUsed x n = record { start = x .start; size = x .size; used = n; generation = x .generation; count = x .count; parent = x .parent; depth = x .depth }
+
+abbrev pub withGeneration : Area → ℕ → Area
+withGeneration x n = record { start = x .start; size = x .size; used = x .used; generation = n; count = x .count; parent = x .parent; depth = x .depth }
+
+abbrev pub withCount : Area → ℕ → Area
+withCount x n = record { start = x .start; size = x .size; used = x .used; generation = x .generation; count = n; parent = x .parent; depth = x .depth }
+
+abbrev pub withParent : Area → ℕ → ℕ → Area
+withParent x parent depth = record { start = x .start; size = x .size; used = x .used; generation = x .generation; count = x .count; parent = parent; depth = depth }
+
+-- ---- a thread with a part replaced
+
+abbrev pub withKind : Thread → ℕ → Thread
+withKind h k = record { kind = k; len = h .len; entries = h .entries; inner = h .inner }
+
+abbrev pub withStack : Thread → ℕ → List ℕ → List ℕ → Thread
+withStack h len entries inner = record { kind = h .kind; len = len; entries = entries; inner = inner }
+
+-- ---- a state with a part replaced
+
 unfoldable pub withArea : State → ℕ → Area → State
 withArea s a x = record { areas = set (s .areas) a x; rows = s .rows; threads = s .threads; lengths = s .lengths; taken = s .taken }
 
@@ -115,6 +142,11 @@ storeOf m a = pick (isScope a) (m .scratch) (m .permanent)
 -- its length, by set-up
 abbrev pub storeLength : State → ℕ → ℕ
 storeLength s a = pick (isScope a) (s .lengths .scratch) (s .lengths .permanent)
+
+-- ---- a memory with a part replaced
+
+abbrev pub withMap : Memory → List ℕ → Memory
+withMap m l = record { permanent = m .permanent; scratch = m .scratch; map = l }
 
 unfoldable pub withStore : Memory → ℕ → List ℕ → Memory
 withStore m a l = record { permanent = pick (isScope a) (m .permanent) l; scratch = pick (isScope a) l (m .scratch); map = m .map }
