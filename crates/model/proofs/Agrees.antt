@@ -22,7 +22,7 @@ use Rattle.model.specs.Objects.{currentAt, grown, allocateState}
 use Rattle.model.specs.Calls.{Call, start, end, make, enter, exit, allocate, store, load, write, read, view, viewed, callStatus, callState}
 use Rattle.model.specs.History.{Object, History, blank, rowOf, occurrences, total, historyStart, historyEnter, historyExit, historyAllocate, historyStep}
 use Rattle.model.specs.Invariant.{parentIn, stacksIn, Good}
-use Rattle.model.proofs.Accepted.{start-ok, end-ok, make-ok, MakeOk, enter-ok, EnterOk, exit-ok, ExitOk, allocate-ok, AllocateOk}
+use Rattle.model.proofs.Accepted.{fitted-ok, start-ok, end-ok, make-ok, MakeOk, enter-ok, EnterOk, exit-ok, ExitOk, allocate-ok, AllocateOk}
 use Rattle.model.proofs.Lists.{total-set, occ-same}
 use Rattle.model.proofs.Memory.{put-same, put-other}
 use Rattle.model.proofs.Sound.{Same}
@@ -75,13 +75,13 @@ module _ (s : State) (g : Good s) (b : History) (m : Same s b) (t : ℕ) (l : t 
 
 -- ---- enter
 
-module _ (s : State) (m : Memory) (t q : ℕ) (g : Good s) (ok : EnterOk s m t q) (b : History) (e : Same s b) where
+module _ (s : State) (t q : ℕ) (g : Good s) (ok : EnterOk s t q) (b : History) (e : Same s b) where
   enter-started : (u : ℕ) → isStarted (enterState s t q) u ≡ b .started u
   unfolding pushed
-  enter-started = started-same s g b e t (ok .called .thread) (enterState s t q) (ap (λ (h : Thread). h .kind) (enter-thread s m t q g ok)) (enter-thread-other s t q)
+  enter-started = started-same s g b e t (ok .called .thread) (enterState s t q) (ap (λ (h : Thread). h .kind) (enter-thread s t q g ok)) (enter-thread-other s t q)
 
   enter-rows : stacksIn (enterState s t q) ≡ set (b .rows) t (q ∷ rowOf b t)
-  enter-rows = enter-stacks s m t q g ok ∙ ap (λ (r : List (List ℕ)). set r t (q ∷ getD r t [])) (e .rows)
+  enter-rows = enter-stacks s t q g ok ∙ ap (λ (r : List (List ℕ)). set r t (q ∷ getD r t [])) (e .rows)
 
   -- how many entries of q the book has
   counted : 2 ≤ q → areaAt s q .count ≡ total q (b .rows)
@@ -122,23 +122,23 @@ module _ (s : State) (m : Memory) (t q : ℕ) (g : Good s) (ok : EnterOk s m t q
 
 -- ---- exit
 
-module _ (s : State) (m : Memory) (t : ℕ) (g : Good s) (ok : ExitOk s m t) (b : History) (e : Same s b) where
+module _ (s : State) (t : ℕ) (g : Good s) (ok : ExitOk s t) (b : History) (e : Same s b) where
   -- the book's row has the core's top
   pub row-top : rowOf b t ≡ currentAt s t ∷ stackOf (popped (threadAt s t))
-  row-top = ap (λ (r : List (List ℕ)). getD r t []) (sym (e .rows)) ∙ pop-is s m t g ok
+  row-top = ap (λ (r : List (List ℕ)). getD r t []) (sym (e .rows)) ∙ pop-is s t g ok
 
   exit-started : (u : ℕ) → isStarted (exitState s t) u ≡ b .started u
   unfolding popped
-  exit-started = started-same s g b e t (ok .called .thread) (exitState s t) (ap (λ (h : Thread). h .kind) (exit-thread s m t g ok)) (exit-thread-other s t)
+  exit-started = started-same s g b e t (ok .called .thread) (exitState s t) (ap (λ (h : Thread). h .kind) (exit-thread s t g ok)) (exit-thread-other s t)
 
   exit-rows : stacksIn (exitState s t) ≡ set (b .rows) t (stackOf (popped (threadAt s t)))
-  exit-rows = exit-stacks s m t g ok ∙ ap (λ (r : List (List ℕ)). set r t (stackOf (popped (threadAt s t)))) (e .rows)
+  exit-rows = exit-stacks s t g ok ∙ ap (λ (r : List (List ℕ)). set r t (stackOf (popped (threadAt s t)))) (e .rows)
 
   -- how many entries of the top the book has then
   pub left-count : 2 ≤ currentAt s t → suc (total (currentAt s t) (set (b .rows) t (stackOf (popped (threadAt s t))))) ≡ areaAt s (currentAt s t) .count
   left-count h = omega (
     arith,
-    g .nesting .counts (currentAt s t) h (top-area s m t g ok),
+    g .nesting .counts (currentAt s t) h (top-area s t g ok),
     ap (total (currentAt s t)) (e .rows),
     ap (occurrences (currentAt s t)) row-top,
     occ-same (currentAt s t) (stackOf (popped (threadAt s t))),
@@ -159,7 +159,7 @@ module _ (s : State) (m : Memory) (t : ℕ) (g : Good s) (ok : ExitOk s m t) (b 
     started = exit-started;
     rows = exit-rows;
     parents = λ a. cases (eqb a (currentAt s t))
-        (λ d. rw (eqb-true a (currentAt s t) d, put-same) (ap (λ (x : Area). x .parent) (exit-last-area s m t g ok h k)))
+        (λ d. rw (eqb-true a (currentAt s t) d, put-same) (ap (λ (x : Area). x .parent) (exit-last-area s t g ok h k)))
         (λ d. rw (put-other (b .parents) (currentAt s t) 0 a (eqb-false a (currentAt s t) d)) (left-parents a (eqb-false a (currentAt s t) d)));
   }
 
@@ -169,7 +169,7 @@ module _ (s : State) (m : Memory) (t : ℕ) (g : Good s) (ok : ExitOk s m t) (b 
     started = exit-started;
     rows = exit-rows;
     parents = λ a. cases (eqb a (currentAt s t))
-        (λ d. rw (eqb-true a (currentAt s t) d) (ap (λ (x : Area). x .parent) (exit-more-area s m t g ok h k) ∙ e .parents (currentAt s t)))
+        (λ d. rw (eqb-true a (currentAt s t) d) (ap (λ (x : Area). x .parent) (exit-more-area s t g ok h k) ∙ e .parents (currentAt s t)))
         (λ d. left-parents a (eqb-false a (currentAt s t) d));
   }
 
@@ -183,18 +183,18 @@ module _ (s : State) (m : Memory) (t : ℕ) (g : Good s) (ok : ExitOk s m t) (b 
 
 -- ---- words are given
 
-pub same-make : (s : State) (m : Memory) (t q r : ℕ) → Good s → MakeOk s m t q r → (b : History) → Same s b → Same (makeState s q r) b
+pub same-make : (s : State) (t q r : ℕ) → Good s → MakeOk s t q r → (b : History) → Same s b → Same (makeState s q r) b
 unfolding makeState withTaken withArea
-same-make s m t q r g ok b e = record {
+same-make s t q r g ok b e = record {
   started = e .started;
   rows = e .rows;
   parents = λ a. number-kept s (parts-of s g) q (madeArea (areaAt s q) (s .taken) r) (ok .area) (λ (x : Area). x .parent) refl a ∙ e .parents a;
 }
 
-pub same-allocate : (s : State) (m : Memory) (t slots words : ℕ) → Good s → AllocateOk s m t slots words → (b : History) (o : Object) → Same s b
+pub same-allocate : (s : State) (t slots words : ℕ) → Good s → AllocateOk s t slots words → (b : History) (o : Object) → Same s b
     → Same (allocateState s (currentAt s t) slots words) (historyAllocate b t o)
 unfolding allocateState withArea historyAllocate
-same-allocate s m t slots words g ok b o e = record {
+same-allocate s t slots words g ok b o e = record {
   started = e .started;
   rows = e .rows;
   parents = λ a. number-kept s (parts-of s g) (currentAt s t) (grown (areaAt s (currentAt s t)) (suc (areaAt s (currentAt s t) .used + slots + words)))
@@ -203,17 +203,17 @@ same-allocate s m t slots words g ok b o e = record {
 
 -- ---- any accepted call
 
-pub same-call : (s : State) (m : Memory) (b : History) (c : Call) (v : ℕ) → Good s → Same s b → callStatus s m c ≡ 0 → Same (callState s c) (historyStep b c v)
+pub same-call : (s : State) (m : Memory) (b : History) (c : Call) (v : ℕ) → Good s → Same s b → callStatus s m c ≡ 0 → Same (callState s m c) (historyStep b c v)
 same-call s m b (start t p) v g e z =
-    let ok = start-ok s m t p z in
-    unfold startState in same-kind s g b e t (ok .thread) (idle-empty s m t p g ok) p true (lt-ltb 0 p (ok .some))
+    let ok = start-ok s t p (fitted-ok s m _ z .1) in
+    unfold startState in same-kind s g b e t (ok .thread) (idle-empty s t p g ok) p true (lt-ltb 0 p (ok .some))
 same-call s m b (end t) v g e z =
-    let ok = end-ok s m t z in
+    let ok = end-ok s t (fitted-ok s m _ z .1) in
     unfold endState in same-kind s g b e t (ok .called .thread) (ok .empty) 0 false refl
-same-call s m b (make t q r) v g e z = same-make s m t q r g (make-ok s m t q r z) b e
-same-call s m b (enter t q) v g e z = same-enter s m t q g (enter-ok s m t q z) b e
-same-call s m b (exit t) v g e z = same-exit s m t g (exit-ok s m t z) b e
-same-call s m b (allocate t q r) v g e z = same-allocate s m t q r g (allocate-ok s m t q r z) b _ e
+same-call s m b (make t q r) v g e z = same-make s t q r g (make-ok s t q r (fitted-ok s m _ z .1)) b e
+same-call s m b (enter t q) v g e z = same-enter s t q g (enter-ok s t q (fitted-ok s m _ z .1)) b e
+same-call s m b (exit t) v g e z = same-exit s t g (exit-ok s t (fitted-ok s m _ z .1)) b e
+same-call s m b (allocate t q r) v g e z = same-allocate s t q r g (allocate-ok s t q r (fitted-ok s m _ z .1)) b _ e
 same-call s m b (store t p q r) v g e z = e
 same-call s m b (load t p q) v g e z = e
 same-call s m b (write t p q r) v g e z = e

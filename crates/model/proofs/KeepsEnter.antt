@@ -112,7 +112,7 @@ made-size s q e h =
     (λ d. ltb-true 0 (areaAt s q .size) d)
     (or-true (ltb q 2) (ltb 0 (areaAt s q .size)) e)
 
-module _ (s : State) (m : Memory) (t q : ℕ) (g : Good s) (ok : EnterOk s m t q) where
+module _ (s : State) (t q : ℕ) (g : Good s) (ok : EnterOk s t q) where
   -- ---- the thread and the stacks
 
   pub enter-thread : threadAt (enterState s t q) t ≡ pushed (threadAt s t) q

@@ -75,7 +75,7 @@ module _ (s : State) (t : ℕ) where
     unfolding withThread
     exit-area-other ne = by-top exit-low-area (λ h. ap (λ (r : State). areaAt r a) (exit-is-scope h) ∙ area-other s (currentAt s t) (left (areaAt s (currentAt s t))) a ne)
 
-module _ (s : State) (m : Memory) (t : ℕ) (g : Good s) (ok : ExitOk s m t) where
+module _ (s : State) (t : ℕ) (g : Good s) (ok : ExitOk s t) where
   -- ---- the top
 
   pub top-area : currentAt s t < 64

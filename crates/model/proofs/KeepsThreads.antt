@@ -31,13 +31,13 @@ module _ (s : State) (t : ℕ) where
         thread = record { kind = l; idle = λ e. z; room = old .room; inner-room = old .inner-room; fits = old .fits; areas = old .areas; inner-is = old .inner-is }
 
 -- a thread that is not started has no entries
-pub idle-empty : (s : State) (m : Memory) (t p : ℕ) → Good s → StartOk s m t p → threadAt s t .len ≡ 0
-idle-empty s m t p g ok = g .threads .each t (ok .thread) .idle (ok .idle)
+pub idle-empty : (s : State) (t p : ℕ) → Good s → StartOk s t p → threadAt s t .len ≡ 0
+idle-empty s t p g ok = g .threads .each t (ok .thread) .idle (ok .idle)
 
-pub good-start : (s : State) (m : Memory) (t p : ℕ) → Good s → StartOk s m t p → Good (startState s t p)
+pub good-start : (s : State) (t p : ℕ) → Good s → StartOk s t p → Good (startState s t p)
 unfolding startState
-good-start s m t p g ok = good-kind s t g (ok .thread) (idle-empty s m t p g ok) p (ok .kind)
+good-start s t p g ok = good-kind s t g (ok .thread) (idle-empty s t p g ok) p (ok .kind)
 
-pub good-end : (s : State) (m : Memory) (t : ℕ) → Good s → EndOk s m t → Good (endState s t)
+pub good-end : (s : State) (t : ℕ) → Good s → EndOk s t → Good (endState s t)
 unfolding endState
-good-end s m t g ok = good-kind s t g (ok .called .thread) (ok .empty) 0 (omega arith)
+good-end s t g ok = good-kind s t g (ok .called .thread) (ok .empty) 0 (omega arith)

@@ -12,8 +12,8 @@ use Rattle.layout.specs.Choice.{refuse, and-true}
 use Rattle.layout.specs.Handle.{null, handleOf, offsetOf, areaOf}
 use Rattle.layout.specs.Header.{slotsOf}
 use Rattle.model.specs.State.{State, Memory, displayAt, wordAt}
-use Rattle.model.specs.Checks.{fits, isStarted, admit, hasRight, headerAt, live, isObject, isReference, useStatus}
-use Rattle.model.specs.References.{wordAfter, slotStatus, referenceStatus, loadStatus}
+use Rattle.model.specs.Checks.{fits, isStarted, fitted, called, admit, hasRight, headerAt, live, isObject, isReference, useRest}
+use Rattle.model.specs.References.{wordAfter, slotRest, referenceRest, loadRest}
 use Rattle.model.specs.History.{Object, History, occurrences, handles}
 use Rattle.model.specs.Claims.{In, first, later, Within}
 use Rattle.model.proofs.Lists.{occ-same}
@@ -89,8 +89,8 @@ module _ (s : State) (m : Memory) (b : History) (o : Sound s m b) where
       (λ n. or-second (eqb (wordAfter s m p q) null) (live s m (wordAfter s m p q)) (given-live s m b o (wordAfter s m p q) (n .given)))
       (slot-ok s m b o p l q h)
 
-  pub no-15 : (t p q : ℕ) → loadStatus s m t p q ≢ 15
-  unfolding loadStatus slotStatus useStatus admit referenceStatus
+  pub no-15 : (t p q : ℕ) → admit s m t (loadRest s m t p q) ≢ 15
+  unfolding fitted called loadRest slotRest useRest referenceRest
   no-15 t p q =
       past-15 (not (fits s m)) 1 _ (λ x e. omega arith) (λ a.
       past-15 (leb 16 t) 2 _ (λ x e. omega arith) (λ c.

@@ -225,7 +225,7 @@ module _ (s : State) (m : Memory) (b : History) (o : Sound s m b) (c slots words
     above = rw eo (λ a h. put-other (b .objects) c _ a (λ e. omega arith) ∙ o .above a h);
   }
 
-module _ (s : State) (m : Memory) (b : History) (o : Sound s m b) (t slots words : ℕ) (ok : AllocateOk s m t slots words) where
+module _ (s : State) (m : Memory) (b : History) (o : Sound s m b) (t slots words : ℕ) (ok : AllocateOk s t slots words) where
   abbrev next : History
   next = historyAllocate b t (record { handle = allocateValue s (currentAt s t); slots = slots; words = words })
 

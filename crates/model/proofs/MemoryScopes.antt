@@ -37,7 +37,7 @@ module _ (s : State) (m : Memory) (b : History) (o : Sound s m b) where
   sound-end t g i = stays-sound (endState s t) (historyStart b t false) g i (end-stays s t) refl refl
 
   -- an area of no words has none used, so it may lie elsewhere
-  pub sound-make : (t q r : ℕ) → MakeOk s m t q r → Good (makeState s q r) → Same (makeState s q r) b → Sound (makeState s q r) m b
+  pub sound-make : (t q r : ℕ) → MakeOk s t q r → Good (makeState s q r) → Same (makeState s q r) b → Sound (makeState s q r) m b
   sound-make t q r k g i = sound-still s m b o (makeState s q r) b g i (to .lengths) (moved-all to moves) refl refl
       (still-all to (make-rows s (o .good .areas) q (k .area) r) refl refl refl) (count-all to (λ z. z))
     where
@@ -51,7 +51,7 @@ module _ (s : State) (m : Memory) (b : History) (o : Sound s m b) where
         fresh = λ p z. absurd (omega arith);
       }
 
-  module _ (t q : ℕ) (k : EnterOk s m t q) (g : Good (enterState s t q)) (i : Same (enterState s t q) (historyEnter b t q)) where
+  module _ (t q : ℕ) (k : EnterOk s t q) (g : Good (enterState s t q)) (i : Same (enterState s t q) (historyEnter b t q)) where
     objects-same : historyEnter b t q .objects ≡ b .objects
     unfolding historyEnter
     objects-same = refl
@@ -83,7 +83,7 @@ module _ (s : State) (m : Memory) (b : History) (o : Sound s m b) where
         (λ c. sound-fresh (leb-true 2 q d) (omega (arith, ltb-false 0 (countIn s q) c))))
         (λ d. stays-sound (enterState s t q) (historyEnter b t q) g i (enter-low s t q (leb-false 2 q d)) objects-same gone-same)
 
-  module _ (t : ℕ) (k : ExitOk s m t) (g : Good (exitState s t)) (i : Same (exitState s t) (historyExit b t)) where
+  module _ (t : ℕ) (k : ExitOk s t) (g : Good (exitState s t)) (i : Same (exitState s t) (historyExit b t)) where
     abbrev top : ℕ
     top = current (stackAt s t)
 
@@ -91,7 +91,7 @@ module _ (s : State) (m : Memory) (b : History) (o : Sound s m b) where
     rest = set (b .rows) t (stackOf (popped (threadAt s t)))
 
     row : rowOf b t ≡ top ∷ stackOf (popped (threadAt s t))
-    row = row-top s m t (o .good) k b (o .same)
+    row = row-top s t (o .good) k b (o .same)
 
     area : top < 64
     area = current-area s (o .good) t (k .called .thread)
@@ -112,7 +112,7 @@ module _ (s : State) (m : Memory) (b : History) (o : Sound s m b) where
 
     module _ (h : 2 ≤ top) where
       count : suc (total top rest) ≡ countIn s top
-      count = left-count s m t (o .good) k b (o .same) h
+      count = left-count s t (o .good) k b (o .same) h
 
       to : Alters s (exitState s t) top (left (areaAt s top))
       to = left-alters s (o .good .areas) t h area

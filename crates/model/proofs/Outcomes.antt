@@ -9,12 +9,7 @@ use native.Mathlib.Omega.{arith}
 use borrow.Author.Tests.{eqb-true, eqb-false, eq-eqb, ne-eqb}
 use Rattle.layout.specs.Choice.{pick, cases, hit}
 use Rattle.model.specs.State.{State, Memory}
-use Rattle.model.specs.Checks.{fits, admit, useStatus}
-use Rattle.model.specs.Threads.{startStatus, endStatus}
-use Rattle.model.specs.Scopes.{makeStatus, enterStatus, exitStatus}
-use Rattle.model.specs.Objects.{allocateStatus}
-use Rattle.model.specs.References.{slotStatus, storeStatus, loadStatus}
-use Rattle.model.specs.Data.{dataStatus, viewStatus}
+use Rattle.model.specs.Checks.{fits, fitted}
 use Rattle.model.specs.Calls.{Call, start, end, make, enter, exit, allocate, store, load, write, read, view, viewed, callStatus, callValue, callState, callMemory, outcomeOf}
 use Rattle.model.specs.Run.{Line}
 use Rattle.model.specs.History.{History, historyStep, historyLine}
@@ -28,7 +23,7 @@ use Rattle.model.proofs.KeepsMemory.{sound-call}
 -- from s and m to n and k: its call is accepted, ..
 pub record Accepts (s : State) (m : Memory) (l : Line) (n : State) (k : Memory) : Type 0 where
   pub passed : callStatus s m (l .call) ≡ 0
-  pub state : n ≡ callState s (l .call)
+  pub state : n ≡ callState s m (l .call)
   pub memory : k ≡ callMemory s m (l .call)
   pub status : l .reply .status ≡ 0
   pub value : l .reply .value ≡ callValue s m (l .call)
@@ -82,32 +77,24 @@ data IsView : Call → Type 0 where
 
 -- lent a memory of other lengths: it is refused by 1, or is a view, which shows no part; and nothing changes
 module _ (s : State) (n : Memory) (u : fits s n ≡ false) where
-  unfit-admit : (t rest : ℕ) → admit s n t rest ≡ 1
-  unfolding admit
-  unfit-admit t rest = hit (not (fits s n)) 1 _ (ap not u)
-
-  unfit-start : (t p : ℕ) → startStatus s n t p ≡ 1
-  unfolding startStatus
-  unfit-start t p = hit (not (fits s n)) 1 _ (ap not u)
-
-  unfit-use : (t p rest : ℕ) → useStatus s n t p rest ≡ 1
-  unfolding useStatus
-  unfit-use t p rest = unfit-admit t _
+  unfit-fitted : (rest : ℕ) → fitted s n rest ≡ 1
+  unfolding fitted
+  unfit-fitted rest = hit (not (fits s n)) 1 _ (ap not u)
 
   -- "1: lengths are not those of set-up", before every other refusal
   unfit-status : (c : Call) → (callStatus s n c ≡ 1) ⊎ IsView c
-  unfit-status (start t p) = inl (unfit-start t p)
-  unfit-status (end t) = inl (unfold endStatus in unfit-admit t _)
-  unfit-status (make t q r) = inl (unfold makeStatus in unfit-admit t _)
-  unfit-status (enter t q) = inl (unfold enterStatus in unfit-admit t _)
-  unfit-status (exit t) = inl (unfold exitStatus in unfit-admit t _)
-  unfit-status (allocate t q r) = inl (unfold allocateStatus in unfit-admit t _)
-  unfit-status (store t p q r) = inl (unfold storeStatus slotStatus in unfit-use t p _)
-  unfit-status (load t p q) = inl (unfold loadStatus slotStatus in unfit-use t p _)
-  unfit-status (write t p q r) = inl (unfold dataStatus in unfit-use t p _)
-  unfit-status (read t p q) = inl (unfold dataStatus in unfit-use t p _)
+  unfit-status (start t p) = inl (unfit-fitted _)
+  unfit-status (end t) = inl (unfit-fitted _)
+  unfit-status (make t q r) = inl (unfit-fitted _)
+  unfit-status (enter t q) = inl (unfit-fitted _)
+  unfit-status (exit t) = inl (unfit-fitted _)
+  unfit-status (allocate t q r) = inl (unfit-fitted _)
+  unfit-status (store t p q r) = inl (unfit-fitted _)
+  unfit-status (load t p q) = inl (unfit-fitted _)
+  unfit-status (write t p q r) = inl (unfit-fitted _)
+  unfit-status (read t p q) = inl (unfit-fitted _)
   unfit-status (view t p) = inr (is-view t p)
-  unfit-status (viewed t p) = inl (unfold viewStatus in unfit-use t p _)
+  unfit-status (viewed t p) = inl (unfit-fitted _)
 
   -- what it is lent is left as it was
   pub unfit-memory : (c : Call) → outcomeOf s n c .memory ≡ n

@@ -18,14 +18,14 @@ use Rattle.model.specs.Checks.{headerAt, live}
 use Rattle.model.specs.Threads.{startState, endState}
 use Rattle.model.specs.Scopes.{makeState, enterState, exitState}
 use Rattle.model.specs.Objects.{currentAt, allocateState, allocateMemory, allocateValue}
-use Rattle.model.specs.References.{storeAfter, loadStatus}
+use Rattle.model.specs.References.{storeAfter, loadRest}
 use Rattle.model.specs.Data.{dataIndex}
 use Rattle.model.specs.Calls.{Call, start, end, make, enter, exit, allocate, store, load, write, read, view, viewed, callStatus, callValue, callState, callMemory}
 use Rattle.model.specs.Run.{Line}
 use Rattle.model.specs.History.{Object, History, occurrences, handles, historyStart, historyEnter, historyAllocate, historyStep, historyFrom, historyOf}
 use Rattle.model.specs.Values.{storedStep, lastStored}
 use Rattle.model.specs.Claims.{In}
-use Rattle.model.proofs.Accepted.{AllocateOk, allocate-ok, SlotOk, slot-ok, StoreOk, store-ok, DataOk, data-ok}
+use Rattle.model.proofs.Accepted.{fitted-ok, admitted, AllocateOk, allocate-ok, SlotOk, slot-ok, StoreOk, store-ok, DataOk, data-ok}
 use Rattle.model.proofs.Tiles.{place, tiled-apart}
 use Rattle.model.proofs.Sound.{usedIn, Sound}
 use Rattle.model.proofs.Bounds.{current-area}
@@ -117,7 +117,7 @@ module _ (s : State) (m : Memory) (b : History) (o : Sound s m b) where
   -- ---- an object is made
 
   module _ (f : ℕ → ℕ → ℕ) (w : Slots s m b f) where
-    module _ (t q r : ℕ) (ok : AllocateOk s m t q r) where
+    module _ (t q r : ℕ) (ok : AllocateOk s t q r) where
       abbrev made : Object
       made = record { handle = allocateValue s (currentAt s t); slots = q; words = r }
 
@@ -148,21 +148,21 @@ module _ (s : State) (m : Memory) (b : History) (o : Sound s m b) where
     slots-still : (n : State) → ((a : ℕ) → 0 < usedIn s a → areaAt n a .start ≡ areaAt s a .start) → Slots n m b f
     slots-still n e a x i j u = ap (λ (y : ℕ). getD (storeOf m a) (y + suc (place x + j)) 0) (e a (omega (arith, slot-used a x i j u))) ∙ w a x i j u
 
-    slots-call : (c : Call) → callStatus s m c ≡ 0 → Sound (callState s c) (callMemory s m c) (historyStep b c (callValue s m c))
-        → Slots (callState s c) (callMemory s m c) (historyStep b c (callValue s m c)) (λ h j. storedStep h j (f h j) c (callValue s m c))
+    slots-call : (c : Call) → callStatus s m c ≡ 0 → Sound (callState s m c) (callMemory s m c) (historyStep b c (callValue s m c))
+        → Slots (callState s m c) (callMemory s m c) (historyStep b c (callValue s m c)) (λ h j. storedStep h j (f h j) c (callValue s m c))
     unfolding historyStart historyEnter
     slots-call (start t p) e z = slots-still (startState s t p) (λ a. carried-call s m b o (start t p) e a .start)
     slots-call (end t) e z = slots-still (endState s t) (λ a. carried-call s m b o (end t) e a .start)
     slots-call (make t q r) e z = slots-still (makeState s q r) (λ a. carried-call s m b o (make t q r) e a .start)
     slots-call (enter t q) e z = slots-still (enterState s t q) (λ a. carried-call s m b o (enter t q) e a .start)
     slots-call (exit t) e z = λ a x i. slots-still (exitState s t) (λ c. carried-call s m b o (exit t) e c .start) a x (exit-kept b t a x i)
-    slots-call (allocate t q r) e z = slots-allocate t q r (allocate-ok s m t q r e) z
+    slots-call (allocate t q r) e z = slots-allocate t q r (allocate-ok s t q r (fitted-ok s m _ e .1)) z
     slots-call (store t p q r) e z =
-        let k : StoreOk s m t p q r = store-ok s m t p q r e in
+        let k : StoreOk s m t p q r = store-ok s m t p q r (admitted s m t _ e .1) in
         slots-store p (k .at .used .object) f w q r (k .at .slot)
     slots-call (load t p q) e z = w
     slots-call (write t p q r) e z =
-        let k : DataOk s m t p q = data-ok s m t p q e in
+        let k : DataOk s m t p q = data-ok s m t p q (admitted s m t _ e .1) in
         slots-write p (k .used .object) f w q r (k .index)
     slots-call (read t p q) e z = w
     slots-call (view t p) e z = w
@@ -185,9 +185,9 @@ module _ (s : State) (m : Memory) (ls : List Line) (o : Sound s m (historyOf ls)
       d
 
   pub load-value : (t p q : ℕ) → callStatus s m (load t p q) ≡ 0 → callValue s m (load t p q) ≡ lastStored p q ls
-  unfolding loadStatus
+  unfolding loadRest
   load-value t p q e =
-      let k : SlotOk s m t p q = slot-ok s m t p q _ e .0 in
+      let k : SlotOk s m t p q = slot-ok s m t p q _ (admitted s m t _ e .1) .0 in
       let lv : live s m p ≡ true = k .used .object in
       rw (target-handle s m (historyOf ls) o p lv) at
       (w (areaOf p) (target s m (historyOf ls) o p lv) (target-in s m (historyOf ls) o p lv) q (omega (arith, k .slot, target-slots s m (historyOf ls) o p lv)))

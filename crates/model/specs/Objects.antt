@@ -12,16 +12,16 @@ use Rattle.bitmap.specs.Bitmap.{withBit, cleared}
 use Rattle.rights.specs.declared.Right.the-variants.{Allocate}
 use Rattle.model.specs.declared.Area.{Area}
 use Rattle.model.specs.State.{State, Memory, areaAt, withArea, stackAt, current, storeOf, withStore, bitIndex}
-use Rattle.model.specs.Checks.{admit, hasRight}
+use Rattle.model.specs.Checks.{called, hasRight}
 
 -- the area that a thread allocates in
 abbrev pub currentAt : State → ℕ → ℕ
 currentAt s t = current (stackAt s t)
 
--- refusals 1, 2, 5, 12: "A in 06 (current area)", "12: used + 1 + s + d above the size"
-unfoldable pub allocateStatus : State → Memory → ℕ → ℕ → ℕ → ℕ
-allocateStatus s m t slots words =
-    admit s m t
+-- refusals 2, 5, 12 after 1: "A in 06 (current area)", "12: used + 1 + s + d above the size"
+unfoldable pub allocateRest : State → ℕ → ℕ → ℕ → ℕ
+allocateRest s t slots words =
+    called s t
     (refuse (not (hasRight s t Allocate (currentAt s t))) 5
     (refuse (ltb (areaAt s (currentAt s t) .size) (suc (areaAt s (currentAt s t) .used + slots + words))) 12 0))
 

@@ -8,15 +8,15 @@ use Rattle.layout.specs.Choice.{pick, refuse}
 use Rattle.display.specs.Display.{extendedRow}
 use Rattle.rights.specs.declared.Right.the-variants.{Enter}
 use Rattle.model.specs.declared.Area.{Area}
-use Rattle.model.specs.State.{Thread, State, Memory, areaAt, rowAt, threadAt, withArea, withRow, withThread, withTaken, stackOf, stackAt, current, innermost, isScope, isMade, isOpen}
-use Rattle.model.specs.Checks.{admit, hasRight}
+use Rattle.model.specs.State.{Thread, State, areaAt, rowAt, threadAt, withArea, withRow, withThread, withTaken, stackOf, stackAt, current, innermost, isScope, isMade, isOpen}
+use Rattle.model.specs.Checks.{called, Change, hasRight}
 
 -- ---- op 03, make scope
 
--- refusals 1, 2, 6, 7, 8: "op 03: outside 2 to 63", "7: scope already made", "8: size 0 or above the unused scratch words"
-unfoldable pub makeStatus : State → Memory → ℕ → ℕ → ℕ → ℕ
-makeStatus s m t q r =
-    admit s m t
+-- refusals 2, 6, 7, 8 after 1: "op 03: outside 2 to 63", "7: scope already made", "8: size 0 or above the unused scratch words"
+unfoldable pub makeRest : State → ℕ → ℕ → ℕ → ℕ
+makeRest s t q r =
+    called s t
     (refuse (ltb q 2 || leb 64 q) 6
     (refuse (isMade s q) 7
     (refuse (eqb r 0 || ltb (s .lengths .scratch - s .taken) r) 8 0)))
@@ -27,6 +27,9 @@ madeArea x start size = record { start = start; size = size; used = x .used; gen
 
 unfoldable pub makeState : State → ℕ → ℕ → State
 makeState s q r = withTaken (withArea s q (madeArea (areaAt s q) (s .taken) r)) (s .taken + r)
+
+abbrev pub makeChange : State → ℕ → ℕ → ℕ → Change
+makeChange s t q r = record { status = makeRest s t q r; value = 0; state = makeState s q r }
 
 -- ---- op 04, enter
 
@@ -42,10 +45,10 @@ lastGeneration = 17592186044415
 unfoldable pub exhausted : State → ℕ → Bool
 exhausted s q = isScope q && (not (isOpen s q) && leb lastGeneration (areaAt s q .generation))
 
--- refusals 1, 2, 6, 5, 9, 10, 17: "6: area above 63 or scope not made", "9: stack has 32 entries"
-unfoldable pub enterStatus : State → Memory → ℕ → ℕ → ℕ
-enterStatus s m t q =
-    admit s m t
+-- refusals 2, 6, 5, 9, 10, 17 after 1: "6: area above 63 or scope not made", "9: stack has 32 entries"
+unfoldable pub enterRest : State → ℕ → ℕ → ℕ
+enterRest s t q =
+    called s t
     (refuse (leb 64 q || not (isMade s q)) 6
     (refuse (not (hasRight s t Enter q)) 5
     (refuse (leb 32 (threadAt s t .len)) 9
@@ -87,11 +90,14 @@ enterState s t q = withThread (enteredArea s q (innermost (stackAt s t))) t (pus
 unfoldable pub enterValue : State → ℕ → ℕ
 enterValue s q = pick (isScope q && not (isOpen s q)) (suc (areaAt s q .generation)) (areaAt s q .generation)
 
+abbrev pub enterChange : State → ℕ → ℕ → Change
+enterChange s t q = record { status = enterRest s t q; value = enterValue s q; state = enterState s t q }
+
 -- ---- op 05, exit
 
--- refusals 1, 2, 11: "exit with empty stack"
-unfoldable pub exitStatus : State → Memory → ℕ → ℕ
-exitStatus s m t = admit s m t (refuse (eqb (threadAt s t .len) 0) 11 0)
+-- refusals 2, 11 after 1: "exit with empty stack"
+unfoldable pub exitRest : State → ℕ → ℕ
+exitRest s t = called s t (refuse (eqb (threadAt s t .len) 0) 11 0)
 
 -- "If it was a scope its count falls by 1; at 0 the scope has no parent and no used words". Nor has it a display.
 abbrev pub left : Area → Area
@@ -120,3 +126,6 @@ exitState s t = withThread (leftArea s (current (stackAt s t))) t (popped (threa
 -- "value: scope's count left, else 0"
 unfoldable pub exitValue : State → ℕ → ℕ
 exitValue s t = pick (isScope (current (stackAt s t))) (pred (areaAt s (current (stackAt s t)) .count)) 0
+
+abbrev pub exitChange : State → ℕ → Change
+exitChange s t = record { status = exitRest s t; value = exitValue s t; state = exitState s t }
