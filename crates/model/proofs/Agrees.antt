@@ -13,10 +13,10 @@ use borrow.Author.Tests.{eqb-true, eqb-false, eq-eqb, ne-eqb, ltb-true, ltb-fals
 use Rattle.layout.specs.Choice.{cases}
 use Rattle.model.specs.declared.Area.{Area}
 use Rattle.model.specs.declared.Lengths.{Lengths}
-use Rattle.model.specs.State.{Thread, State, Memory, noThread, areaAt, threadAt, withArea, withThread, withTaken, stackOf, stackAt, innermost}
+use Rattle.model.specs.State.{Thread, State, Memory, noThread, areaAt, threadAt, withKind, withArea, withThread, withTaken, stackOf, stackAt, innermost}
 use Rattle.model.specs.SetUp.{newThread, firstState}
 use Rattle.model.specs.Checks.{isStarted}
-use Rattle.model.specs.Threads.{ofKind, startState, endState}
+use Rattle.model.specs.Threads.{startState, endState}
 use Rattle.model.specs.Scopes.{madeArea, makeState, pushed, enterState, popped, exitState}
 use Rattle.model.specs.Objects.{currentAt, grown, allocateState}
 use Rattle.model.specs.Calls.{Call, start, end, make, enter, exit, allocate, store, load, write, read, view, viewed, callStatus, callState}
@@ -60,12 +60,12 @@ module _ (s : State) (g : Good s) (b : History) (m : Same s b) (t : ℕ) (l : t 
       (λ d. rw (f u (eqb-false u t d)) (m .started u))
 
   -- a thread with no entries becomes of another kind
-  same-kind : threadAt s t .len ≡ 0 → (k : ℕ) (on : Bool) → ltb 0 k ≡ on → Same (withThread s t (ofKind (threadAt s t) k)) (historyStart b t on)
+  same-kind : threadAt s t .len ≡ 0 → (k : ℕ) (on : Bool) → ltb 0 k ≡ on → Same (withThread s t (withKind (threadAt s t) k)) (historyStart b t on)
   unfolding historyStart
   same-kind z k on e = record {
     started = λ u. cases (eqb u t)
-        (λ d. rw (eqb-true u t d, thread-same s t (ofKind (threadAt s t) k) (omega (arith, g .threads .size)), put-same) e)
-        (λ d. rw (thread-other s t (ofKind (threadAt s t) k) u (eqb-false u t d), put-other (b .started) t on u (eqb-false u t d)) (m .started u));
+        (λ d. rw (eqb-true u t d, thread-same s t (withKind (threadAt s t) k) (omega (arith, g .threads .size)), put-same) e)
+        (λ d. rw (thread-other s t (withKind (threadAt s t) k) u (eqb-false u t d), put-other (b .started) t on u (eqb-false u t d)) (m .started u));
     rows = kind-stacks s t k ∙ m .rows ∙ sym (set-getD (b .rows) t []) ∙ ap (set (b .rows) t) empty;
     parents = λ a. unfold withThread in m .parents a;
   }

@@ -9,8 +9,8 @@ use native.Mathlib.Omega.{arith}
 use borrow.Author.Tests.{eqb-true, eqb-false}
 use Rattle.layout.specs.Choice.{cases}
 use Rattle.model.specs.declared.Area.{Area}
-use Rattle.model.specs.State.{Thread, State, areaAt, rowAt, threadAt, withArea, withRow, withThread, withTaken, stackAt, current}
-use Rattle.model.specs.Threads.{ofKind, startState, endState}
+use Rattle.model.specs.State.{Thread, State, areaAt, rowAt, threadAt, withKind, withArea, withRow, withThread, withTaken, stackAt, current}
+use Rattle.model.specs.Threads.{startState, endState}
 use Rattle.model.specs.Scopes.{madeArea, makeState, reentered, pushed, enterState, left, popped, exitState}
 use Rattle.model.specs.Objects.{grown, allocateState}
 use Rattle.model.proofs.Parts.{area-same, area-other, row-other}
@@ -46,11 +46,11 @@ module _ (s : State) where
 
   pub start-stays : (t p : ℕ) → Stays s (startState s t p)
   unfolding startState
-  start-stays t p = stays t (ofKind (threadAt s t) p)
+  start-stays t p = stays t (withKind (threadAt s t) p)
 
   pub end-stays : (t : ℕ) → Stays s (endState s t)
   unfolding endState
-  end-stays t = stays t (ofKind (threadAt s t) 0)
+  end-stays t = stays t (withKind (threadAt s t) 0)
 
   pub enter-low : (t q : ℕ) → q < 2 → Stays s (enterState s t q)
   enter-low t q h = rw (enter-is-low s t q h) (stays t (pushed (threadAt s t) q))

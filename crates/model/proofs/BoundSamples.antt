@@ -7,7 +7,7 @@ use lib.ListN.{set}
 use Rattle.layout.specs.Choice.{pick}
 use Rattle.rights.specs.declared.Right.the-variants.{Enter, Allocate, Use, Refer}
 use Rattle.rights.specs.Rights.{Class, Heap, Immortal, Scope, classOf, allows}
-use Rattle.model.specs.State.{withArea}
+use Rattle.model.specs.State.{areaAt, withGeneration, withArea}
 use Rattle.model.specs.SetUp.{setUpStatus, setUpState}
 use Rattle.model.specs.Calls.{Call, start, end, make, enter, exit, allocate, store, load, write, read, viewed}
 use Rattle.model.specs.Run.{World}
@@ -54,7 +54,7 @@ parent-bounds = refl
 pub worn : ℕ → World
 worn g =
     let w : World = after busy (make 2 4 2 ∷ start 4 2 ∷ []) in
-    withState w (withArea (w .state) 4 (record { start = 10; size = 2; used = 0; generation = g; count = 0; parent = 0; depth = 0 }))
+    withState w (withArea (w .state) 4 (withGeneration (areaAt (w .state) 4) g))
 
 -- from 2^44 - 2 it opens to the last generation; while it is open it may be entered, then no more
 pub generation-bounds : statuses (worn 17592186044414) (enter 4 4 ∷ allocate 4 0 0 ∷ exit 4 ∷ enter 4 4 ∷ []) ≡ 0 ∷ 0 ∷ 0 ∷ 17 ∷ []

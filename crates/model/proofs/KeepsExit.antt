@@ -11,7 +11,7 @@ use native.Mathlib.Omega.{arith}
 use borrow.Author.Tests.{leb-true, leb-false, le-leb, lt-leb}
 use Rattle.layout.specs.Choice.{cases}
 use Rattle.model.specs.declared.Area.{Area}
-use Rattle.model.specs.State.{Thread, State, Memory, noThread, areaAt, rowAt, threadAt, withArea, withThread, stackOf, displayAt}
+use Rattle.model.specs.State.{Thread, State, Memory, noThread, areaAt, rowAt, threadAt, withUsed, withCount, withParent, withArea, withThread, stackOf, displayAt}
 use Rattle.model.specs.Scopes.{left, leftArea, popped, exitState}
 use Rattle.model.specs.Objects.{currentAt}
 use Rattle.model.specs.Invariant.{Nesting, ScopeGood, parentIn, countIn, stacksIn, Good}
@@ -24,10 +24,10 @@ use Rattle.model.proofs.Bounds.{current-area, current-open}
 
 -- a scope that is left and stays open, and one that is left for the last time
 abbrev pub lowered : Area → Area
-lowered x = record { start = x .start; size = x .size; used = x .used; generation = x .generation; count = pred (x .count); parent = x .parent; depth = x .depth }
+lowered x = withCount x (pred (x .count))
 
 abbrev pub shut : Area → Area
-shut x = record { start = x .start; size = x .size; used = 0; generation = x .generation; count = pred (x .count); parent = 0; depth = 0 }
+shut x = withParent (withUsed (lowered x) 0) 0 0
 
 left-more : (x : Area) → 1 < x .count → left x ≡ lowered x
 left-more x h = rw (lt-leb (x .count) 1 h)

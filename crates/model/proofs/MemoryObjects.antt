@@ -17,7 +17,7 @@ use Rattle.layout.specs.HandleLaws.{offset-packed, slots-packed, data-packed}
 use Rattle.bitmap.specs.Bitmap.{bitAt, withBit, cleared}
 use Rattle.bitmap.specs.BitmapLaws.{length-cleared, bit-with-same, bit-with-other, cleared-inside, cleared-outside}
 use Rattle.model.specs.declared.Area.{Area}
-use Rattle.model.specs.State.{State, Memory, areaAt, displayAt, storeOf, withStore, wordAt, bitIndex}
+use Rattle.model.specs.State.{State, Memory, areaAt, displayAt, storeOf, withMap, withStore, wordAt, bitIndex}
 use Rattle.model.specs.Checks.{fits}
 use Rattle.model.specs.Objects.{currentAt, grown, filled, objectWords, objectBits, allocateState, allocateMemory, allocateValue}
 use Rattle.model.specs.History.{Object, History, putAt, historyAllocate}
@@ -128,7 +128,7 @@ module _ (s : State) (m : Memory) (b : History) (o : Sound s m b) (c slots words
 
   -- the memory with the object's bits alone
   abbrev marked : Memory
-  marked = record { permanent = m .permanent; scratch = m .scratch; map = objectBits (m .map) (bitIndex s c (usedIn s c)) (slots + words) }
+  marked = withMap m (objectBits (m .map) (bitIndex s c (usedIn s c)) (slots + words))
 
   to : Alters s (allocateState s c slots words) c (grown (areaAt s c) (suc (usedIn s c + slots + words)))
   to = allocate-alters s (o .good .areas) c hc slots words

@@ -11,7 +11,7 @@ use Rattle.layout.specs.Header.{headerOf}
 use Rattle.bitmap.specs.Bitmap.{withBit, cleared}
 use Rattle.rights.specs.declared.Right.the-variants.{Allocate}
 use Rattle.model.specs.declared.Area.{Area}
-use Rattle.model.specs.State.{State, Memory, areaAt, withArea, stackAt, current, storeOf, withStore, bitIndex}
+use Rattle.model.specs.State.{State, Memory, areaAt, withUsed, withArea, stackAt, current, storeOf, withMap, withStore, bitIndex}
 use Rattle.model.specs.Checks.{called, hasRight}
 
 -- the area that a thread allocates in
@@ -27,7 +27,7 @@ allocateRest s t slots words =
 
 -- "Allocation takes the area's next words"
 abbrev pub grown : Area → ℕ → Area
-grown x used = record { start = x .start; size = x .size; used = used; generation = x .generation; count = x .count; parent = x .parent; depth = x .depth }
+grown x used = withUsed x used
 
 -- in area a; "takes 1 + s + d words"
 unfoldable pub allocateState : State → ℕ → ℕ → ℕ → State
@@ -49,7 +49,7 @@ objectBits map at n = withBit (cleared map (suc at) n) at
 -- "Allocation takes the area's next words, sets slots and data to 0, sets the map bit of the header and clears those of its other words."
 unfoldable pub allocateMemory : State → Memory → ℕ → ℕ → ℕ → Memory
 allocateMemory s m a slots words =
-    withStore (record { permanent = m .permanent; scratch = m .scratch; map = objectBits (m .map) (bitIndex s a (areaAt s a .used)) (slots + words) })
+    withStore (withMap m (objectBits (m .map) (bitIndex s a (areaAt s a .used)) (slots + words)))
     a (objectWords (storeOf m a) (areaAt s a .start + areaAt s a .used) slots words)
 
 -- "value: handle"
