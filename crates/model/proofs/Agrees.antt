@@ -13,14 +13,14 @@ use borrow.Author.Tests.{eqb-true, eqb-false, eq-eqb, ne-eqb, ltb-true, ltb-fals
 use Rattle.layout.specs.Choice.{cases}
 use Rattle.model.specs.declared.Area.{Area}
 use Rattle.model.specs.declared.Lengths.{Lengths}
-use Rattle.model.specs.State.{Thread, State, Memory, noThread, areaAt, threadAt, withKind, withArea, withThread, withTaken, stackOf, stackAt, innermost}
+use Rattle.model.specs.State.{Thread, State, Memory, noThread, areaAt, threadAt, withKind, withArea, withThread, withTaken, entriesOf, stackAt, innermost}
 use Rattle.model.specs.SetUp.{newThread, firstState}
 use Rattle.model.specs.Checks.{isStarted}
 use Rattle.model.specs.Threads.{startState, endState}
 use Rattle.model.specs.Scopes.{madeArea, makeState, pushed, enterState, popped, exitState}
 use Rattle.model.specs.Objects.{currentAt, grown, allocateState}
 use Rattle.model.specs.Calls.{Call, start, end, make, enter, exit, allocate, store, load, write, read, view, viewed, callStatus, callState}
-use Rattle.model.specs.History.{Object, History, blank, rowOf, occurrences, total, historyStart, historyEnter, historyExit, historyAllocate, historyStep}
+use Rattle.model.specs.History.{Object, History, blank, threadRow, occurrences, total, historyStart, historyEnter, historyExit, historyAllocate, historyStep}
 use Rattle.model.specs.Invariant.{parentIn, stacksIn, Good}
 use Rattle.model.proofs.Accepted.{fitted-ok, start-ok, end-ok, make-ok, MakeOk, enter-ok, EnterOk, exit-ok, ExitOk, allocate-ok, AllocateOk}
 use Rattle.model.proofs.Lists.{total-set, occ-same}
@@ -70,7 +70,7 @@ module _ (s : State) (g : Good s) (b : History) (m : Same s b) (t : ℕ) (l : t 
     parents = λ a. unfold withThread in m .parents a;
   }
     where
-      empty : rowOf b t ≡ []
+      empty : threadRow b t ≡ []
       empty = ap (λ (r : List (List ℕ)). getD r t []) (sym (m .rows)) ∙ stack-is s t ∙ stack-none (threadAt s t) z
 
 -- ---- enter
@@ -80,7 +80,7 @@ module _ (s : State) (t q : ℕ) (g : Good s) (ok : EnterOk s t q) (b : History)
   unfolding pushed
   enter-started = started-same s g b e t (ok .called .thread) (enterState s t q) (ap (λ (h : Thread). h .kind) (enter-thread s t q g ok)) (enter-thread-other s t q)
 
-  enter-rows : stacksIn (enterState s t q) ≡ set (b .rows) t (q ∷ rowOf b t)
+  enter-rows : stacksIn (enterState s t q) ≡ set (b .rows) t (q ∷ threadRow b t)
   enter-rows = enter-stacks s t q g ok ∙ ap (λ (r : List (List ℕ)). set r t (q ∷ getD r t [])) (e .rows)
 
   -- how many entries of q the book has
@@ -111,10 +111,10 @@ module _ (s : State) (t q : ℕ) (g : Good s) (ok : EnterOk s t q) (b : History)
     rows = enter-rows;
     parents = λ a. cases (eqb a q)
         (λ d. rw (eqb-true a q d, put-same) (ap (λ (x : Area). x .parent) (enter-fresh-area s t q g (ok .area) h z) ∙ inner))
-        (λ d. rw (put-other (b .parents) q (innermost (rowOf b t)) a (eqb-false a q d)) (other-parents a (eqb-false a q d)));
+        (λ d. rw (put-other (b .parents) q (innermost (threadRow b t)) a (eqb-false a q d)) (other-parents a (eqb-false a q d)));
   }
     where
-      inner : innermost (stackAt s t) ≡ innermost (rowOf b t)
+      inner : innermost (stackAt s t) ≡ innermost (threadRow b t)
       inner = ap innermost (sym (stack-is s t) ∙ ap (λ (r : List (List ℕ)). getD r t []) (e .rows))
 
   pub same-enter : Same (enterState s t q) (historyEnter b t q)
@@ -124,25 +124,25 @@ module _ (s : State) (t q : ℕ) (g : Good s) (ok : EnterOk s t q) (b : History)
 
 module _ (s : State) (t : ℕ) (g : Good s) (ok : ExitOk s t) (b : History) (e : Same s b) where
   -- the book's row has the core's top
-  pub row-top : rowOf b t ≡ currentAt s t ∷ stackOf (popped (threadAt s t))
+  pub row-top : threadRow b t ≡ currentAt s t ∷ entriesOf (popped (threadAt s t))
   row-top = ap (λ (r : List (List ℕ)). getD r t []) (sym (e .rows)) ∙ pop-is s t g ok
 
   exit-started : (u : ℕ) → isStarted (exitState s t) u ≡ b .started u
   unfolding popped
   exit-started = started-same s g b e t (ok .called .thread) (exitState s t) (ap (λ (h : Thread). h .kind) (exit-thread s t g ok)) (exit-thread-other s t)
 
-  exit-rows : stacksIn (exitState s t) ≡ set (b .rows) t (stackOf (popped (threadAt s t)))
-  exit-rows = exit-stacks s t g ok ∙ ap (λ (r : List (List ℕ)). set r t (stackOf (popped (threadAt s t)))) (e .rows)
+  exit-rows : stacksIn (exitState s t) ≡ set (b .rows) t (entriesOf (popped (threadAt s t)))
+  exit-rows = exit-stacks s t g ok ∙ ap (λ (r : List (List ℕ)). set r t (entriesOf (popped (threadAt s t)))) (e .rows)
 
   -- how many entries of the top the book has then
-  pub left-count : 2 ≤ currentAt s t → suc (total (currentAt s t) (set (b .rows) t (stackOf (popped (threadAt s t))))) ≡ areaAt s (currentAt s t) .count
+  pub left-count : 2 ≤ currentAt s t → suc (total (currentAt s t) (set (b .rows) t (entriesOf (popped (threadAt s t))))) ≡ areaAt s (currentAt s t) .count
   left-count h = omega (
     arith,
     g .nesting .counts (currentAt s t) h (top-area s t g ok),
     ap (total (currentAt s t)) (e .rows),
     ap (occurrences (currentAt s t)) row-top,
-    occ-same (currentAt s t) (stackOf (popped (threadAt s t))),
-    total-set (currentAt s t) (b .rows) t (stackOf (popped (threadAt s t))) (omega (arith, g .nesting .size, ap length (e .rows), ok .called .thread)),
+    occ-same (currentAt s t) (entriesOf (popped (threadAt s t))),
+    total-set (currentAt s t) (b .rows) t (entriesOf (popped (threadAt s t))) (omega (arith, g .nesting .size, ap length (e .rows), ok .called .thread)),
   )
 
   left-parents : (a : ℕ) → a ≢ currentAt s t → parentIn (exitState s t) a ≡ b .parents a
@@ -155,7 +155,7 @@ module _ (s : State) (t : ℕ) (g : Good s) (ok : ExitOk s t) (b : History) (e :
 
   exit-same-last : 2 ≤ currentAt s t → areaAt s (currentAt s t) .count ≤ 1 → Same (exitState s t) (historyExit b t)
   unfolding historyExit
-  exit-same-last h k = rw (row-top, le-leb 2 (currentAt s t) h, eq-eqb (total (currentAt s t) (set (b .rows) t (stackOf (popped (threadAt s t))))) 0 (omega (arith, left-count h))) record {
+  exit-same-last h k = rw (row-top, le-leb 2 (currentAt s t) h, eq-eqb (total (currentAt s t) (set (b .rows) t (entriesOf (popped (threadAt s t))))) 0 (omega (arith, left-count h))) record {
     started = exit-started;
     rows = exit-rows;
     parents = λ a. cases (eqb a (currentAt s t))
@@ -165,7 +165,7 @@ module _ (s : State) (t : ℕ) (g : Good s) (ok : ExitOk s t) (b : History) (e :
 
   exit-same-more : 2 ≤ currentAt s t → 1 < areaAt s (currentAt s t) .count → Same (exitState s t) (historyExit b t)
   unfolding historyExit
-  exit-same-more h k = rw (row-top, le-leb 2 (currentAt s t) h, ne-eqb (total (currentAt s t) (set (b .rows) t (stackOf (popped (threadAt s t))))) 0 (λ z. omega (arith, left-count h))) record {
+  exit-same-more h k = rw (row-top, le-leb 2 (currentAt s t) h, ne-eqb (total (currentAt s t) (set (b .rows) t (entriesOf (popped (threadAt s t))))) 0 (λ z. omega (arith, left-count h))) record {
     started = exit-started;
     rows = exit-rows;
     parents = λ a. cases (eqb a (currentAt s t))

@@ -12,7 +12,7 @@ use Rattle.layout.specs.Choice.{refuse, cases, peel}
 use Rattle.layout.specs.Stack.{down}
 use Rattle.model.specs.declared.Area.{Area}
 use Rattle.model.specs.declared.Lengths.{Lengths}
-use Rattle.model.specs.State.{State, Memory, noArea, noThread, areaAt, stackOf}
+use Rattle.model.specs.State.{State, Memory, noArea, noThread, areaAt, entriesOf}
 use Rattle.model.specs.SetUp.{setUpStatus, newThread, firstState, setUpState}
 use Rattle.model.specs.Calls.{Call, start, end, make, enter, exit, allocate, store, load, write, read, view, viewed, callStatus, callState, outcomeOf}
 use Rattle.model.specs.History.{occurrences, total}
@@ -62,7 +62,7 @@ module _ (h i : ℕ) (n : Lengths) where
 
   -- the stacks are empty
   pub first-stacks : stacksIn (firstState h i n) ≡ replicate 16 []
-  unfolding firstState stackOf down
+  unfolding firstState entriesOf down
   first-stacks = refl
 
   -- no scope is made

@@ -13,7 +13,7 @@ use Rattle.layout.specs.Choice.{cases, or-true}
 use Rattle.display.specs.Display.{extendedRow}
 use Rattle.layout.specs.StackLaws.{length-down, down-push}
 use Rattle.model.specs.declared.Area.{Area}
-use Rattle.model.specs.State.{Thread, State, Memory, noThread, areaAt, rowAt, threadAt, withArea, withRow, withThread, stackOf, stackAt, innermost, isMade, displayAt}
+use Rattle.model.specs.State.{Thread, State, Memory, noThread, areaAt, rowAt, threadAt, withArea, withRow, withThread, entriesOf, stackAt, innermost, isMade, displayAt}
 use Rattle.model.specs.Scopes.{reentered, opened, enteredArea, pushed, enterState}
 use Rattle.model.specs.Invariant.{branchOf, Nesting, ThreadGood, ScopeGood, parentIn, countIn, stacksIn, Good}
 use Rattle.model.proofs.Accepted.{EnterOk}
@@ -124,8 +124,8 @@ module _ (s : State) (t q : ℕ) (g : Good s) (ok : EnterOk s t q) where
 
   pub enter-stacks : stacksIn (enterState s t q) ≡ set (stacksIn s) t (q ∷ getD (stacksIn s) t [])
   enter-stacks =
-      ap (map stackOf) (enter-threads s t q)
-      ∙ map-set stackOf (s .threads) t (pushed (threadAt s t) q)
+      ap (map entriesOf) (enter-threads s t q)
+      ∙ map-set entriesOf (s .threads) t (pushed (threadAt s t) q)
       ∙ ap (set (stacksIn s) t) (stack-push (threadAt s t) thread q (ok .room) ∙ ap (λ (l : List ℕ). q ∷ l) (sym (stack-is s t)))
 
   -- the innermost scope is no deeper than the stack is high

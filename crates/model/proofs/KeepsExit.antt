@@ -11,7 +11,7 @@ use native.Mathlib.Omega.{arith}
 use borrow.Author.Tests.{leb-true, leb-false, le-leb, lt-leb}
 use Rattle.layout.specs.Choice.{cases}
 use Rattle.model.specs.declared.Area.{Area}
-use Rattle.model.specs.State.{Thread, State, Memory, noThread, areaAt, rowAt, threadAt, withUsed, withCount, withParent, withArea, withThread, stackOf, displayAt}
+use Rattle.model.specs.State.{Thread, State, Memory, noThread, areaAt, rowAt, threadAt, withUsed, withCount, withParent, withArea, withThread, entriesOf, displayAt}
 use Rattle.model.specs.Scopes.{left, leftArea, popped, exitState}
 use Rattle.model.specs.Objects.{currentAt}
 use Rattle.model.specs.Invariant.{Nesting, ScopeGood, parentIn, countIn, stacksIn, Good}
@@ -102,11 +102,11 @@ module _ (s : State) (t : ℕ) (g : Good s) (ok : ExitOk s t) where
   exit-thread = ap (λ (l : List Thread). getD l t noThread) (exit-threads s t) ∙ thread-same s t (popped (threadAt s t)) (omega (arith, g .threads .size, ok .called .thread))
 
   -- the stack is the top and what is left
-  pub pop-is : getD (stacksIn s) t [] ≡ currentAt s t ∷ stackOf (popped (threadAt s t))
+  pub pop-is : getD (stacksIn s) t [] ≡ currentAt s t ∷ entriesOf (popped (threadAt s t))
   pop-is = stack-is s t ∙ stack-pop (threadAt s t) (ok .some)
 
-  pub exit-stacks : stacksIn (exitState s t) ≡ set (stacksIn s) t (stackOf (popped (threadAt s t)))
-  exit-stacks = ap (map stackOf) (exit-threads s t) ∙ map-set stackOf (s .threads) t (popped (threadAt s t))
+  pub exit-stacks : stacksIn (exitState s t) ≡ set (stacksIn s) t (entriesOf (popped (threadAt s t)))
+  exit-stacks = ap (map entriesOf) (exit-threads s t) ∙ map-set entriesOf (s .threads) t (popped (threadAt s t))
 
   -- ---- the nesting
 

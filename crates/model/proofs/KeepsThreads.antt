@@ -4,7 +4,7 @@ use Prim.Native.Nat.{ℕ, _<_}
 use mathlib.Core.Path.{_≡_, refl}
 use native.Mathlib.Omega.{arith}
 use lib.Seq.{map-set-same}
-use Rattle.model.specs.State.{State, Memory, noThread, threadAt, withKind, withThread, stackOf, displayAt}
+use Rattle.model.specs.State.{State, Memory, noThread, threadAt, withKind, withThread, entriesOf, displayAt}
 use Rattle.model.specs.Threads.{startState, endState}
 use Rattle.model.specs.Invariant.{ThreadGood, stacksIn, Good}
 use Rattle.model.proofs.Accepted.{StartOk, EndOk}
@@ -13,8 +13,8 @@ use Rattle.model.proofs.Parts.{nesting-same, parts-of, good-of, parts-t
 module _ (s : State) (t : ℕ) where
   -- a thread's kind is no part of its stack
   pub kind-stacks : (k : ℕ) → stacksIn (withThread s t (withKind (threadAt s t) k)) ≡ stacksIn s
-  unfolding withThread stackOf
-  kind-stacks k = map-set-same stackOf (s .threads) t (withKind (threadAt s t) k) noThread refl
+  unfolding withThread entriesOf
+  kind-stacks k = map-set-same entriesOf (s .threads) t (withKind (threadAt s t) k) noThread refl
 
   module _ (g : Good s) (h : t < 16) where
     -- a thread with no entries becomes of another kind

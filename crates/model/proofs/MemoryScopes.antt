@@ -10,10 +10,10 @@ use native.Mathlib.Omega.{arith}
 use borrow.Author.Tests.{ltb-true, ltb-false, leb-true, leb-false, le-leb, lt-leb, eq-eqb, ne-eqb}
 use Rattle.layout.specs.Choice.{cases}
 use Rattle.model.specs.declared.Area.{Area}
-use Rattle.model.specs.State.{State, Memory, areaAt, threadAt, stackOf, stackAt, current, innermost}
+use Rattle.model.specs.State.{State, Memory, areaAt, threadAt, entriesOf, stackAt, current, innermost}
 use Rattle.model.specs.Threads.{startState, endState}
 use Rattle.model.specs.Scopes.{madeArea, makeState, reentered, opened, enterState, left, popped, exitState}
-use Rattle.model.specs.History.{History, rowOf, total, handles, putAt, isScopeOnNone, historyStart, historyEnter, historyExit}
+use Rattle.model.specs.History.{History, threadRow, total, handles, putAt, isScopeOnNone, historyStart, historyEnter, historyExit}
 use Rattle.model.specs.Invariant.{countIn, Good}
 use Rattle.model.proofs.Accepted.{MakeOk, EnterOk, ExitOk}
 use Rattle.model.proofs.Sound.{Same, Sound}
@@ -88,9 +88,9 @@ module _ (s : State) (m : Memory) (b : History) (o : Sound s m b) where
     top = current (stackAt s t)
 
     abbrev rest : List (List ℕ)
-    rest = set (b .rows) t (stackOf (popped (threadAt s t)))
+    rest = set (b .rows) t (entriesOf (popped (threadAt s t)))
 
-    row : rowOf b t ≡ top ∷ stackOf (popped (threadAt s t))
+    row : threadRow b t ≡ top ∷ entriesOf (popped (threadAt s t))
     row = row-top s t (o .good) k b (o .same)
 
     area : top < 64

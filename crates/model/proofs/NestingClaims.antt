@@ -14,9 +14,9 @@ use Rattle.display.specs.Display.{rowHolds}
 use Rattle.layout.specs.Stack.{down}
 use Rattle.layout.specs.StackLaws.{length-down}
 use Rattle.model.specs.declared.Area.{Area}
-use Rattle.model.specs.State.{Thread, State, noArea, noThread, areaAt, rowAt, threadAt, stackOf, stackAt, isOpen, displayAt, displayHolds}
+use Rattle.model.specs.State.{Thread, State, noArea, noThread, areaAt, rowAt, threadAt, entriesOf, stackAt, isOpen, displayAt, displayHolds}
 use Rattle.model.specs.Checks.{isStarted}
-use Rattle.model.specs.History.{History, rowOf, occurrences}
+use Rattle.model.specs.History.{History, threadRow, occurrences}
 use Rattle.model.specs.Claims.{Open, Walk, Meets, InOrder, scan}
 use Rattle.model.specs.Invariant.{Nested, Nesting, countIn, Good}
 use Rattle.model.proofs.Nesting.{Chain, row-at, StandsOn, stands-on}
@@ -31,7 +31,7 @@ module _ (s : State) (b : History) (g : Good s) (e : Same s b) where
   history-nesting = nesting-same (g .nesting) (λ a. (sym (e .parents a), refl)) (λ a. refl) (sym (e .rows))
 
   -- every row is nested, also one that is not there
-  row-nested : (t : ℕ) → Nested (b .parents) (displayAt s) (rowOf b t)
+  row-nested : (t : ℕ) → Nested (b .parents) (displayAt s) (threadRow b t)
   row-nested t = cases (ltb t 16)
       (λ d. history-nesting .nested t (ltb-true t 16 d))
       (λ d. rw (List·getD-eq-default (b .rows) [] {n = t} (omega (arith, ltb-false t 16 d, history-nesting .size))) tt)
@@ -51,7 +51,7 @@ module _ (s : State) (b : History) (g : Good s) (e : Same s b) where
   pub started : (t : ℕ) → isStarted s t ≡ b .started t
   started = e .started
 
-  pub stacks : (t : ℕ) → stackAt s t ≡ rowOf b t
+  pub stacks : (t : ℕ) → stackAt s t ≡ threadRow b t
   stacks t = sym (stack-is s t) ∙ ap (λ (r : List (List ℕ)). getD r t []) (e .rows)
 
   pub parents : (a : ℕ) → areaAt s a .parent ≡ b .parents a
@@ -100,20 +100,20 @@ module _ (s : State) (b : History) (g : Good s) (e : Same s b) where
       (λ d. let k = g .threads .each t (ltb-true t 16 d) in omega (arith, k .fits, k .room))
       (λ d. omega (arith, ap (λ (h : Thread). h .len) (no-thread t d)))
 
-  pub heights : (t : ℕ) → length (rowOf b t) ≤ 32
+  pub heights : (t : ℕ) → length (threadRow b t) ≤ 32
   heights t = rw (← stacks t) (cases (ltb t 16)
       (λ d. let k = g .threads .each t (ltb-true t 16 d) in omega (arith, height, k .fits))
       (λ d. omega (arith, height, ap (λ (h : Thread). h .len) (no-thread t d))))
     where
       height : length (stackAt s t) ≡ threadAt s t .len
-      height = unfold stackOf in length-down (threadAt s t .entries) (threadAt s t .len)
+      height = unfold entriesOf in length-down (threadAt s t .entries) (threadAt s t .len)
 
   -- ---- walks
 
-  pub order : (t a : ℕ) → 2 ≤ a → 0 < occurrences a (rowOf b t) → (l : List ℕ) × Walk (b .parents) a l × InOrder l (rowOf b t)
+  pub order : (t a : ℕ) → 2 ≤ a → 0 < occurrences a (threadRow b t) → (l : List ℕ) × Walk (b .parents) a l × InOrder l (threadRow b t)
   order t a h p =
-      let z : (l : List ℕ) × Chain (b .parents) (displayAt s) (a ∷ l) × InOrder (a ∷ l) (rowOf b t)
-      = row-at (b .parents) (displayAt s) a h (rowOf b t) (row-nested t) p in
+      let z : (l : List ℕ) × Chain (b .parents) (displayAt s) (a ∷ l) × InOrder (a ∷ l) (threadRow b t)
+      = row-at (b .parents) (displayAt s) a h (threadRow b t) (row-nested t) p in
       (a ∷ z .0, walk-is (b .parents) (displayAt s) (a ∷ z .0) (z .1), z .2)
 
   pub displays : (a : ℕ) → Open b a → Walk (b .parents) a (displayAt s a)
@@ -164,8 +164,8 @@ module _ (s : State) (b : History) (g : Good s) (e : Same s b) where
         λ w. verdict a c (o .0) (n .0) (n .1) ∙ lt-ltb 0 (occurrences a (c ∷ n .0)) (meets-occ (b .parents) (displayAt s) a (o .0) (c ∷ n .0) (n .1) c refl w),
       )
 
-  pub scanned : (t a c : ℕ) → 2 ≤ a → 2 ≤ c → 0 < occurrences a (rowOf b t) → 0 < occurrences c (rowOf b t) → displayHolds s a c ≡ scan a c (rowOf b t)
+  pub scanned : (t a c : ℕ) → 2 ≤ a → 2 ≤ c → 0 < occurrences a (threadRow b t) → 0 < occurrences c (threadRow b t) → displayHolds s a c ≡ scan a c (threadRow b t)
   scanned t a c h k p q =
-      let z : (j : List ℕ) × Chain (b .parents) (displayAt s) (c ∷ j) × (scan a c (rowOf b t) ≡ ltb 0 (occurrences a (c ∷ j)))
-      = scan-is (b .parents) (displayAt s) a h c k (rowOf b t) (row-nested t) q in
+      let z : (j : List ℕ) × Chain (b .parents) (displayAt s) (c ∷ j) × (scan a c (threadRow b t) ≡ ltb 0 (occurrences a (c ∷ j)))
+      = scan-is (b .parents) (displayAt s) a h c k (threadRow b t) (row-nested t) q in
       verdict a c h (z .0) (z .1) ∙ sym (z .2)

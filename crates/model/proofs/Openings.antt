@@ -11,7 +11,7 @@ use borrow.Author.Tests.{eqb-true, eqb-false, eq-eqb, ne-eqb, le-leb, lt-leb, lt
 use Rattle.layout.specs.Choice.{pick, cases}
 use Rattle.model.specs.declared.Area.{Area}
 use Rattle.model.specs.declared.Lengths.{Lengths}
-use Rattle.model.specs.State.{State, Memory, areaAt, threadAt, stackOf}
+use Rattle.model.specs.State.{State, Memory, areaAt, threadAt, entriesOf}
 use Rattle.model.specs.SetUp.{firstState}
 use Rattle.model.specs.Scopes.{enterState, enterValue, popped, exitState, exitValue}
 use Rattle.model.specs.Objects.{currentAt}
@@ -155,5 +155,5 @@ exit-value s m b o t z =
     (λ h. rw (le-leb 2 (currentAt s t) h) (left h k)))
   where
     left : 2 ≤ currentAt s t → ExitOk s t
-        → pred (areaAt s (currentAt s t) .count) ≡ total (currentAt s t) (set (b .rows) t (stackOf (popped (threadAt s t))))
+        → pred (areaAt s (currentAt s t) .count) ≡ total (currentAt s t) (set (b .rows) t (entriesOf (popped (threadAt s t))))
     left h k = omega (arith, left-count s t (o .good) k b (o .same) h)

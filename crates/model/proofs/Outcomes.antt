@@ -61,11 +61,11 @@ module _ {s : State} {m : Memory} {l : Line} {n : State} {k : Memory} where
 -- ---- one call
 
 -- the line that a call leaves
-abbrev pub lineOf : State → Memory → Call → Line
-lineOf s m c = record { call = c; reply = outcomeOf s m c .reply }
+abbrev pub lineFor : State → Memory → Call → Line
+lineFor s m c = record { call = c; reply = outcomeOf s m c .reply }
 
 -- lent a memory of the right lengths
-pub transition : (s : State) (m : Memory) (c : Call) → Transition s m (lineOf s m c) (outcomeOf s m c .state) (outcomeOf s m c .memory)
+pub transition : (s : State) (m : Memory) (c : Call) → Transition s m (lineFor s m c) (outcomeOf s m c .state) (outcomeOf s m c .memory)
 unfolding outcomeOf
 transition s m c = cases (eqb (callStatus s m c) 0)
     (λ e. rw e (inl record { passed = eqb-true (callStatus s m c) 0 e; state = refl; memory = refl; status = refl; value = refl }))
@@ -107,18 +107,18 @@ module _ (s : State) (n : Memory) (u : fits s n ≡ false) where
       by-view (is-view t p) = unfold outcomeOf in refl
 
   -- and so is what is kept
-  pub unfit : (m : Memory) (c : Call) → Transition s m (lineOf s n c) (outcomeOf s n c .state) m
+  pub unfit : (m : Memory) (c : Call) → Transition s m (lineFor s n c) (outcomeOf s n c .state) m
   unfit m c = ⊎-elim by-1 by-view (unfit-status c)
     where
-      by-1 : callStatus s n c ≡ 1 → Transition s m (lineOf s n c) (outcomeOf s n c .state) m
+      by-1 : callStatus s n c ≡ 1 → Transition s m (lineFor s n c) (outcomeOf s n c .state) m
       by-1 e = unfold outcomeOf in rw e (inr record { state = refl; memory = refl; status = λ z. omega arith; number = inr refl })
 
-      by-view : {d : Call} → IsView d → Transition s m (lineOf s n d) (outcomeOf s n d .state) m
+      by-view : {d : Call} → IsView d → Transition s m (lineFor s n d) (outcomeOf s n d .state) m
       by-view (is-view t p) = unfold outcomeOf in inl record { passed = refl; state = refl; memory = refl; status = refl; value = refl }
 
 -- lent the kept memory, or one of other lengths, which is not kept
 pub step-transition : (s : State) (m n : Memory) → fits s m ≡ true → (n ≡ m) ⊎ (fits s n ≡ false) → (c : Call)
-    → Transition s m (lineOf s n c) (outcomeOf s n c .state) (pick (fits s n) (outcomeOf s n c .memory) m)
+    → Transition s m (lineFor s n c) (outcomeOf s n c .state) (pick (fits s n) (outcomeOf s n c .memory) m)
 step-transition s m n f d c = ⊎-elim
     (λ (q : n ≡ m). rw (q, f) (transition s m c))
     (λ u. rw u (unfit s n u m c))

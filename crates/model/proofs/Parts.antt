@@ -13,7 +13,7 @@ use Rattle.layout.specs.Choice.{cases}
 use Rattle.layout.specs.Stack.{down}
 use Rattle.model.specs.declared.Area.{Area}
 use Rattle.model.specs.declared.Lengths.{Lengths}
-use Rattle.model.specs.State.{Thread, State, noArea, noThread, areaAt, rowAt, threadAt, withArea, withRow, withThread, withTaken, stackOf, stackAt, innermost, displayAt}
+use Rattle.model.specs.State.{Thread, State, noArea, noThread, areaAt, rowAt, threadAt, withArea, withRow, withThread, withTaken, entriesOf, stackAt, innermost, displayAt}
 use Rattle.model.specs.History.{total}
 use Rattle.model.specs.Invariant.{branchOf, firstOf, Nesting, ThreadGood, Each, StandingGood, ScopeGood, Placed, parentIn, countIn, stacksIn, Good}
 use Rattle.model.proofs.Lists.{innermost-is, each-set}
@@ -51,8 +51,8 @@ module _ (s : State) where
 
   -- a row of the stacks is a thread's stack
   pub stack-is : (t : ℕ) → getD (stacksIn s) t [] ≡ stackAt s t
-  unfolding stackOf down
-  stack-is t = List·getD-map stackOf (s .threads) t noThread
+  unfolding entriesOf down
+  stack-is t = List·getD-map entriesOf (s .threads) t noThread
 
   -- the innermost scope of a stack is the first of its branch
   pub inner-is : (t : ℕ) → innermost (stackAt s t) ≡ firstOf (branchOf (getD (stacksIn s) t []))

@@ -20,7 +20,7 @@ use Rattle.model.proofs.NestingClaims.{started, stacks, opens, parents,
 use Rattle.model.proofs.Live.{live-given, given-live, dead-not}
 use Rattle.model.proofs.KeepsMemory.{sound-first}
 use Rattle.model.proofs.MemoryClaims.{one-object, slot-holds, within, given-in, in-given}
-use Rattle.model.proofs.Outcomes.{Transition, sound-line, lineOf, step-transition}
+use Rattle.model.proofs.Outcomes.{Transition, sound-line, lineFor, step-transition}
 use Rattle.model.proofs.Traces.{none-in, born, gone-run, among-some, area-below, open-area}
 use Rattle.model.proofs.Openings.{Opened, opened-first, opened-line}
 use Rattle.model.proofs.Stored.{Stored, stored-line}
@@ -37,7 +37,7 @@ module _ (w : World) (e : Element) where
   supplied = suppliedTo (w .state) (w .memory) (e .supplied)
 
   abbrev line : Line
-  line = lineOf (w .state) supplied (e .call)
+  line = lineFor (w .state) supplied (e .call)
 
   trace-is : step w e .trace ≡ line ∷ w .trace
   unfolding step

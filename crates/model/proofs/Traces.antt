@@ -13,7 +13,7 @@ use Rattle.layout.specs.Choice.{cases}
 use Rattle.model.specs.State.{State, Memory, current, isOpen}
 use Rattle.model.specs.Calls.{Call, start, end, make, enter, exit, allocate, store, load, write, read, view, viewed}
 use Rattle.model.specs.Run.{Element, Line, World, step, run}
-use Rattle.model.specs.History.{Object, History, rowOf, putAt, below, occurrences, handles, isScopeOnNone, historyStart, historyEnter, historyExit, historyAllocate, historyStep, historyLine, historyFrom, historyOf}
+use Rattle.model.specs.History.{Object, History, threadRow, putAt, below, occurrences, handles, isScopeOnNone, historyStart, historyEnter, historyExit, historyAllocate, historyStep, historyLine, historyFrom, historyOf}
 use Rattle.model.specs.Claims.{Open, In, Among, Allocates}
 use Rattle.model.specs.Invariant.{countIn}
 use Rattle.model.proofs.Lists.{occ-same, occ-other}
@@ -44,22 +44,22 @@ top-or {x} (In.later {l = k} i) y l e = let z : k ≡ l = cc in inr (rw z at i)
 pub exit-kept : (b : History) (t a : ℕ) (x : Object) → In x (historyExit b t .objects a) → In x (b .objects a)
 unfolding historyExit
 exit-kept b t a x i =
-    cases (isScopeOnNone (current (rowOf b t)) (set (b .rows) t (below (rowOf b t))))
-    (λ e. ⊎-elim (λ k. absurd (none-in (k .0))) (λ k. k) (put-in (b .objects) (current (rowOf b t)) [] a x (rw e at i)))
+    cases (isScopeOnNone (current (threadRow b t)) (set (b .rows) t (below (threadRow b t))))
+    (λ e. ⊎-elim (λ k. absurd (none-in (k .0))) (λ k. k) (put-in (b .objects) (current (threadRow b t)) [] a x (rw e at i)))
     (λ e. rw e at i)
 
 -- an allocation makes one, in the area of the row's top
 pub made-or : (b : History) (t : ℕ) (o : Object) (a : ℕ) (x : Object) → In x (historyAllocate b t o .objects a)
-    → ((a ≡ current (rowOf b t)) × (x ≡ o)) ⊎ In x (b .objects a)
+    → ((a ≡ current (threadRow b t)) × (x ≡ o)) ⊎ In x (b .objects a)
 unfolding historyAllocate
 made-or b t o a x i = ⊎-elim
-    (λ k. ⊎-elim (λ z. inl (k .1, z)) (λ z. inr (rw (← (k .1)) at z)) (top-or (k .0) o (b .objects (current (rowOf b t))) refl))
+    (λ k. ⊎-elim (λ z. inl (k .1, z)) (λ z. inr (rw (← (k .1)) at z)) (top-or (k .0) o (b .objects (current (threadRow b t))) refl))
     (λ k. inr k)
-    (put-in (b .objects) (current (rowOf b t)) (o ∷ b .objects (current (rowOf b t))) a x i)
+    (put-in (b .objects) (current (threadRow b t)) (o ∷ b .objects (current (threadRow b t))) a x i)
 
-pub made-in : (b : History) (t : ℕ) (o : Object) → In o (historyAllocate b t o .objects (current (rowOf b t)))
+pub made-in : (b : History) (t : ℕ) (o : Object) → In o (historyAllocate b t o .objects (current (threadRow b t)))
 unfolding historyAllocate
-made-in b t o = rw (put-same (b .objects) (current (rowOf b t)) (o ∷ b .objects (current (rowOf b t)))) In.first
+made-in b t o = rw (put-same (b .objects) (current (threadRow b t)) (o ∷ b .objects (current (threadRow b t)))) In.first
 
 module _ (b : History) (l : Line) (ok : l .reply .status ≡ 0) (a : ℕ) (x : Object) where
   abbrev Born : Type 0
@@ -103,8 +103,8 @@ among-after x (y ∷ k) l i = Among.later (among-after x k l i)
 gone-exit : (b : History) (t x : ℕ) → Among x (b .gone) → Among x (historyExit b t .gone)
 unfolding historyExit
 gone-exit b t x i =
-    cases (isScopeOnNone (current (rowOf b t)) (set (b .rows) t (below (rowOf b t))))
-    (λ e. rw e (among-after x (handles (b .objects (current (rowOf b t)))) (b .gone) i))
+    cases (isScopeOnNone (current (threadRow b t)) (set (b .rows) t (below (threadRow b t))))
+    (λ e. rw e (among-after x (handles (b .objects (current (threadRow b t)))) (b .gone) i))
     (λ e. rw e i)
 
 gone-step : (b : History) (c : Call) (v x : ℕ) → Among x (b .gone) → Among x (historyStep b c v .gone)

@@ -13,7 +13,7 @@ use Rattle.model.specs.State.{State, Memory, areaAt, threadAt, stackAt, 
 use Rattle.model.specs.Checks.{isStarted, live}
 use Rattle.model.specs.Calls.{enter, exit, allocate, load}
 use Rattle.model.specs.Run.{Element, Line, World, run}
-use Rattle.model.specs.History.{Object, History, rowOf, occurrences, total, historyOf}
+use Rattle.model.specs.History.{Object, History, threadRow, occurrences, total, historyOf}
 use Rattle.model.specs.Values.{lastStored, entryGeneration, entriesLeft}
 
 -- ---- the words of the claims
@@ -74,7 +74,7 @@ pub record Allocates (b : History) (l : Line) (x a : ℕ) : Type 0 where
   pub call : l .call ≡ allocate thread slots words
   pub accepted : l .reply .status ≡ 0
   pub gave : l .reply .value ≡ x
-  pub area : current (rowOf b thread) ≡ a
+  pub area : current (threadRow b thread) ≡ a
 
 -- by the list of calls alone: an allocation gave x in area a, and if a is a scope, it has not been empty of threads since. The newest line
 -- is the first.
@@ -105,7 +105,7 @@ pub data Follows (l : Line) (before : List Line) : List Line → Type 0 where
 pub record Claims (w : World) (b : History) : Type 0 where
   -- 1. "The core has the book's started threads, stacks, open scopes and parents."
   pub started : (t : ℕ) → isStarted (w .state) t ≡ b .started t
-  pub stacks : (t : ℕ) → stackAt (w .state) t ≡ rowOf b t
+  pub stacks : (t : ℕ) → stackAt (w .state) t ≡ threadRow b t
   pub opens : (a : ℕ) → 2 ≤ a → (isOpen (w .state) a ≡ true) ↔ Open b a
   pub parents : (a : ℕ) → areaAt (w .state) a .parent ≡ b .parents a
   -- "Each open scope has a display: the row of its ancestors, outermost first, itself last." One that is not open has none.
@@ -115,10 +115,10 @@ pub record Claims (w : World) (b : History) : Type 0 where
   pub threads : (t : ℕ) → b .started t ≡ true → t < 16
   pub scopes : (a : ℕ) → Open b a → a < 64
   -- "A stack has at most 32 entries."
-  pub heights : (t : ℕ) → length (rowOf b t) ≤ 32
+  pub heights : (t : ℕ) → length (threadRow b t) ≤ 32
   pub room : (t : ℕ) → threadAt (w .state) t .len ≤ length (threadAt (w .state) t .entries)
   -- 2. "Every thread in a scope stands in all that scope's ancestors, in their order."
-  pub order : (t a : ℕ) → 2 ≤ a → 0 < occurrences a (rowOf b t) → (l : List ℕ) × Walk (b .parents) a l × InOrder l (rowOf b t)
+  pub order : (t a : ℕ) → 2 ≤ a → 0 < occurrences a (threadRow b t) → (l : List ℕ) × Walk (b .parents) a l × InOrder l (threadRow b t)
   -- 3. "Every reference in a live object is null or names a live object: one in the heap, in immortal memory, or in a scope that, by the list
   -- of calls alone, has never been empty of threads since that object was made." "a reference is the lent word in one of its slots"
   pub references : (a : ℕ) (o : Object) → In o (b .objects a) → (i : ℕ) → i < o .slots
@@ -135,8 +135,8 @@ pub record Claims (w : World) (b : History) : Type 0 where
   -- What one look says is whether "the core's display of B holds A".
   pub looks : (a c : ℕ) → 2 ≤ a → Open b c → (displayHolds (w .state) a c ≡ true) ↔ (0 < occurrences a (displayAt (w .state) c))
   pub walked : (a c : ℕ) → Open b a → Open b c → (displayHolds (w .state) a c ≡ true) ↔ Meets (b .parents) a c
-  pub scanned : (t a c : ℕ) → 2 ≤ a → 2 ≤ c → 0 < occurrences a (rowOf b t) → 0 < occurrences c (rowOf b t)
-      → displayHolds (w .state) a c ≡ scan a c (rowOf b t)
+  pub scanned : (t a c : ℕ) → 2 ≤ a → 2 ≤ c → 0 < occurrences a (threadRow b t) → 0 < occurrences c (threadRow b t)
+      → displayHolds (w .state) a c ≡ scan a c (threadRow b t)
   -- 7. "No op 08 in it yields 15."
   pub loads : (l : Line) (before : List Line) → Follows l before (w .trace) → (t p q : ℕ) → l .call ≡ load t p q → l .reply .status ≢ 15
   -- 8. The values, by the lines before. A load gives the word last stored in that slot since the object was made, null if none.

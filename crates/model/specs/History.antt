@@ -28,8 +28,8 @@ pub record History : Type 0 where
 unfoldable pub blank : History
 blank = record { started = λ t. false; rows = replicate 16 []; parents = λ a. 0; objects = λ a. []; gone = [] }
 
-abbrev pub rowOf : History → ℕ → List ℕ
-rowOf b t = getD (b .rows) t []
+abbrev pub threadRow : History → ℕ → List ℕ
+threadRow b t = getD (b .rows) t []
 
 -- f with v at q
 unfoldable pub putAt {ℓ} : {A : Type ℓ} → (ℕ → A) → ℕ → A → ℕ → A
@@ -63,8 +63,8 @@ historyStart b t on = record { started = putAt (b .started) t on; rows = set (b 
 unfoldable pub historyEnter : History → ℕ → ℕ → History
 historyEnter b t q = record {
   started = b .started;
-  rows = set (b .rows) t (q ∷ rowOf b t);
-  parents = pick (isScopeOnNone q (b .rows)) (putAt (b .parents) q (innermost (rowOf b t))) (b .parents);
+  rows = set (b .rows) t (q ∷ threadRow b t);
+  parents = pick (isScopeOnNone q (b .rows)) (putAt (b .parents) q (innermost (threadRow b t))) (b .parents);
   objects = b .objects;
   gone = b .gone;
 }
@@ -72,8 +72,8 @@ historyEnter b t q = record {
 -- "05 takes the top off. If that leaves a scope on no row, it has no parent and its objects are gone."
 unfoldable pub historyExit : History → ℕ → History
 historyExit b t =
-    let q : ℕ = current (rowOf b t) in
-    let left : List (List ℕ) = set (b .rows) t (below (rowOf b t)) in
+    let q : ℕ = current (threadRow b t) in
+    let left : List (List ℕ) = set (b .rows) t (below (threadRow b t)) in
     record {
       started = b .started;
       rows = left;
@@ -85,7 +85,7 @@ historyExit b t =
 -- "06 makes an object: its handle is the value, it has q slots, its area is the row's top, or the heap if the row is empty."
 unfoldable pub historyAllocate : History → ℕ → Object → History
 historyAllocate b t o =
-    let a : ℕ = current (rowOf b t) in
+    let a : ℕ = current (threadRow b t) in
     record { started = b .started; rows = b .rows; parents = b .parents; objects = putAt (b .objects) a (o ∷ b .objects a); gone = b .gone }
 
 -- an accepted call with its value; "The rest .. change nothing."

@@ -8,7 +8,7 @@ use lib.ListN.{length, getD}
 use Rattle.layout.specs.Choice.{pick}
 use Rattle.layout.specs.Stack.{down}
 use Rattle.model.specs.declared.Area.{Area}
-use Rattle.model.specs.State.{Thread, State, noThread, areaAt, stackOf, innermost, isScope, displayAt}
+use Rattle.model.specs.State.{Thread, State, noThread, areaAt, entriesOf, innermost, isScope, displayAt}
 use Rattle.model.specs.Scopes.{lastGeneration}
 use Rattle.model.specs.History.{total}
 
@@ -106,7 +106,7 @@ abbrev pub countIn : State → ℕ → ℕ
 countIn s a = areaAt s a .count
 
 abbrev pub stacksIn : State → List (List ℕ)
-stacksIn s = map stackOf (s .threads)
+stacksIn s = map entriesOf (s .threads)
 
 pub record Good (s : State) : Type 0 where
   pub areas : length (s .areas) ≡ 64

@@ -8,7 +8,7 @@ use Rattle.layout.specs.Choice.{pick, refuse}
 use Rattle.display.specs.Display.{extendedRow}
 use Rattle.rights.specs.declared.Right.the-variants.{Enter}
 use Rattle.model.specs.declared.Area.{Area}
-use Rattle.model.specs.State.{Thread, State, areaAt, rowAt, threadAt, withWords, withUsed, withGeneration, withCount, withParent, withStack, withArea, withRow, withThread, withTaken, stackOf, stackAt, current, innermost, isScope, isMade, isOpen}
+use Rattle.model.specs.State.{Thread, State, areaAt, rowAt, threadAt, withWords, withUsed, withGeneration, withCount, withParent, withStack, withArea, withRow, withThread, withTaken, entriesOf, stackAt, current, innermost, isScope, isMade, isOpen}
 use Rattle.model.specs.Checks.{called, Change, hasRight}
 
 -- ---- op 03, make scope
@@ -42,8 +42,8 @@ abbrev pub lastGeneration : ℕ
 lastGeneration = 17592186044415
 
 -- "17: scope not open, its turn 2^44 - 1". It asks for that turn or a higher one; under the invariant none is higher.
-unfoldable pub exhausted : State → ℕ → Bool
-exhausted s q = isScope q && (not (isOpen s q) && leb lastGeneration (areaAt s q .generation))
+unfoldable pub atLastGeneration : State → ℕ → Bool
+atLastGeneration s q = isScope q && (not (isOpen s q) && leb lastGeneration (areaAt s q .generation))
 
 -- refusals 2, 6, 5, 9, 10, 17 after 1: "6: area above 63 or scope not made", "9: stack has 32 entries"
 unfoldable pub enterRest : State → ℕ → ℕ → ℕ
@@ -53,7 +53,7 @@ enterRest s t q =
     (refuse (not (hasRight s t Enter q)) 5
     (refuse (leb 32 (threadAt s t .len)) 9
     (refuse (otherParent s t q) 10
-    (refuse (exhausted s q) 17 0)))))
+    (refuse (atLastGeneration s q) 17 0)))))
 
 -- "An open scope may be entered only if its parent equals that innermost scope; its count rises by 1."
 abbrev pub reentered : Area → Area
@@ -76,7 +76,7 @@ enteredArea s q p =
 -- a stack with one entry more, and beside it the innermost scope as of that entry
 unfoldable pub pushed : Thread → ℕ → Thread
 pushed h q =
-    withStack h (suc (h .len)) (set (h .entries) (h .len) q) (set (h .inner) (h .len) (pick (isScope q) q (innermost (stackOf h))))
+    withStack h (suc (h .len)) (set (h .entries) (h .len) q) (set (h .inner) (h .len) (pick (isScope q) q (innermost (entriesOf h))))
 
 -- op 04, "enter (q area)": q is entered under "the innermost scope on the thread's stack" as it was, and its entry goes on top
 unfoldable pub enterState : State → ℕ → ℕ → State

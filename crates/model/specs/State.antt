@@ -93,11 +93,11 @@ withTaken s n = record { areas = s .areas; rows = s .rows; threads = s .threads;
 -- ---- stacks
 
 -- a thread's stack, its top first
-unfoldable pub stackOf : Thread → List ℕ
-stackOf h = down (h .entries) (h .len)
+unfoldable pub entriesOf : Thread → List ℕ
+entriesOf h = down (h .entries) (h .len)
 
 abbrev pub stackAt : State → ℕ → List ℕ
-stackAt s t = stackOf (threadAt s t)
+stackAt s t = entriesOf (threadAt s t)
 
 -- "The current area is the top entry, or the heap where the stack is empty."
 abbrev pub current : List ℕ → ℕ

@@ -9,7 +9,7 @@ use Rattle.layout.specs.Handle.{null}
 use Rattle.model.specs.State.{current, isScope}
 use Rattle.model.specs.Calls.{Call, start, end, make, enter, exit, allocate, store, load, write, read, view, viewed}
 use Rattle.model.specs.Run.{Line}
-use Rattle.model.specs.History.{History, rowOf, total, isScopeOnNone, historyExit, historyOf}
+use Rattle.model.specs.History.{History, threadRow, total, isScopeOnNone, historyExit, historyOf}
 
 -- ---- op 08: "value: stored word"
 
@@ -73,4 +73,4 @@ entryGeneration q ls = pick (isScope q) (pick (eqb (total q (historyOf ls .rows)
 
 -- how many entries of the area that thread t leaves, if it is a scope, are left on all rows
 unfoldable pub entriesLeft : History → ℕ → ℕ
-entriesLeft b t = pick (isScope (current (rowOf b t))) (total (current (rowOf b t)) (historyExit b t .rows)) 0
+entriesLeft b t = pick (isScope (current (threadRow b t))) (total (current (threadRow b t)) (historyExit b t .rows)) 0
