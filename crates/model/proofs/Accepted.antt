@@ -148,13 +148,13 @@ module _ (s : State) (t : ℕ) where
       record { called = a .0; some = omega (arith, eqb-false) }
 
   -- op 06
-  pub record AllocateOk (slots words : ℕ) : Type 0 where
+  pub record AllocateOk (slots dataWords : ℕ) : Type 0 where
     pub called : Called
-    pub room : suc (areaAt s (currentAt s t) .used + slots + words) ≤ areaAt s (currentAt s t) .size
+    pub room : suc (areaAt s (currentAt s t) .used + slots + dataWords) ≤ areaAt s (currentAt s t) .size
 
-  pub allocate-ok : (slots words : ℕ) → allocateRest s t slots words ≡ 0 → AllocateOk slots words
+  pub allocate-ok : (slots dataWords : ℕ) → allocateRest s t slots dataWords ≡ 0 → AllocateOk slots dataWords
   unfolding allocateRest
-  allocate-ok slots words e =
+  allocate-ok slots dataWords e =
       let a = called-ok _ e in
       let b = peel _ _ _ (a .1) in
       let c = peel _ _ _ (b .1) in

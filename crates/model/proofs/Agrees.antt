@@ -191,13 +191,13 @@ same-make s t q r g ok b e = record {
   parents = λ a. number-kept s (parts-of s g) q (madeArea (areaAt s q) (s .taken) r) (ok .area) (λ (x : Area). x .parent) refl a ∙ e .parents a;
 }
 
-pub same-allocate : (s : State) (t slots words : ℕ) → Good s → AllocateOk s t slots words → (b : History) (o : Object) → Same s b
-    → Same (allocateState s (currentAt s t) slots words) (historyAllocate b t o)
+pub same-allocate : (s : State) (t slots dataWords : ℕ) → Good s → AllocateOk s t slots dataWords → (b : History) (o : Object) → Same s b
+    → Same (allocateState s (currentAt s t) slots dataWords) (historyAllocate b t o)
 unfolding allocateState withArea historyAllocate
-same-allocate s t slots words g ok b o e = record {
+same-allocate s t slots dataWords g ok b o e = record {
   started = e .started;
   rows = e .rows;
-  parents = λ a. number-kept s (parts-of s g) (currentAt s t) (grown (areaAt s (currentAt s t)) (suc (areaAt s (currentAt s t) .used + slots + words)))
+  parents = λ a. number-kept s (parts-of s g) (currentAt s t) (grown (areaAt s (currentAt s t)) (suc (areaAt s (currentAt s t) .used + slots + dataWords)))
       (current-area s g t (ok .called .thread)) (λ (x : Area). x .parent) refl a ∙ e .parents a;
 }
 

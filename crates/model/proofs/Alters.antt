@@ -90,13 +90,13 @@ module _ (s : State) where
     unfolding makeState withTaken withArea
     make-rows r a = refl
 
-    pub allocate-alters : (slots words : ℕ) → Alters s (allocateState s q slots words) q (grown (areaAt s q) (suc (areaAt s q .used + slots + words)))
+    pub allocate-alters : (slots dataWords : ℕ) → Alters s (allocateState s q slots dataWords) q (grown (areaAt s q) (suc (areaAt s q .used + slots + dataWords)))
     unfolding allocateState
-    allocate-alters slots words = alters (grown (areaAt s q) (suc (areaAt s q .used + slots + words)))
+    allocate-alters slots dataWords = alters (grown (areaAt s q) (suc (areaAt s q .used + slots + dataWords)))
 
-    pub allocate-rows : (slots words a : ℕ) → rowAt (allocateState s q slots words) a ≡ rowAt s a
+    pub allocate-rows : (slots dataWords a : ℕ) → rowAt (allocateState s q slots dataWords) a ≡ rowAt s a
     unfolding allocateState withArea
-    allocate-rows slots words a = refl
+    allocate-rows slots dataWords a = refl
 
     -- an open scope is entered
     module _ (t : ℕ) (k : 2 ≤ q) (c : 0 < areaAt s q .count) where

@@ -73,7 +73,7 @@ module _ (s : State) (m : Memory) (b : History) (o : Sound s m b) where
       pub given-place : place (given-tile .0) ≡ offsetOf h
       given-place = ap offsetOf (given-tile .2)
 
-      pub given-ends : suc (offsetOf h + given-tile .0 .slots + given-tile .0 .words) ≤ usedIn s (areaOf h)
+      pub given-ends : suc (offsetOf h + given-tile .0 .slots + given-tile .0 .dataWords) ≤ usedIn s (areaOf h)
       given-ends = omega (arith, given-place, given-tile .3 .ends, given-tile .4)
 
       -- what the header of an object that is not gone says
@@ -94,7 +94,7 @@ module _ (s : State) (m : Memory) (b : History) (o : Sound s m b) where
           on = ap (bitIn s m (areaOf h)) (sym given-place) ∙ given-tile .3 .on
 
           whole : leb (suc (offsetOf h + slotsOf (headerAt s m h) + dataOf (headerAt s m h))) (usedIn s (areaOf h)) ≡ true
-          whole = le-leb (suc (offsetOf h + slotsOf (headerAt s m h) + dataOf (headerAt s m h))) (usedIn s (areaOf h)) (omega (arith, given-head .slots, given-head .words, given-ends))
+          whole = le-leb (suc (offsetOf h + slotsOf (headerAt s m h) + dataOf (headerAt s m h))) (usedIn s (areaOf h)) (omega (arith, given-head .slots, given-head .dataWords, given-ends))
 
     -- a handle that is dead is not live
     pub dead-not : Dead (countIn s) (generationIn s) h → live s m h ≡ false

@@ -177,13 +177,13 @@ pub allocates-is : {b : History} {l : Line} {x a : ℕ} → Allocates b l x a
     → (o : Object) × (o .handle ≡ x) × (historyLine b l .objects a ≡ o ∷ b .objects a)
 unfolding historyLine historyAllocate
 allocates-is {b} {l} {x} {a} k = (
-  record { handle = l .reply .value; slots = k .slots; words = k .words },
+  record { handle = l .reply .value; slots = k .slots; dataWords = k .dataWords },
   k .gave,
   rw (k .accepted, k .call, k .area) (put-same (b .objects) a _),
 )
 
 -- every word after the header of an object that lies inside is a word of its store: none reads as 0 because it is not there
-pub word-inside : {s : State} {m : Memory} {a : ℕ} {o : Object} → Within s m a o → (i : ℕ) → i < o .slots + o .words
+pub word-inside : {s : State} {m : Memory} {a : ℕ} {o : Object} → Within s m a o → (i : ℕ) → i < o .slots + o .dataWords
     → areaAt s a .start + suc (offsetOf (o .handle) + i) < length (storeOf m a)
 word-inside k i h = omega (arith, k .ends, k .used, k .inside)
 

@@ -106,7 +106,7 @@ module _ {dis : ℕ → List ℕ} {cnt used generation : ℕ → ℕ} {wd : ℕ 
 
   -- one word of area b is replaced, a data word of the object with handle h
   pub mem-data : (b p h : ℕ) (wd′ : ℕ → ℕ → ℕ)
-      → ((o : Object) → o .handle ≡ h → Header (wd b (place o)) o → (place o + o .slots < p) × (p ≤ place o + o .slots + o .words))
+      → ((o : Object) → o .handle ≡ h → Header (wd b (place o)) o → (place o + o .slots < p) × (p ≤ place o + o .slots + o .dataWords))
       → 0 < occurrences h (handles (objects b))
       → ((a j : ℕ) → a < 64 → j < used a → (a ≡ b → j ≡ p → ⊥) → wd′ a j ≡ wd a j) → Mem dis cnt used generation wd′ bit objects
   mem-data b p h wd′ d k f = record {
@@ -124,8 +124,8 @@ module _ {dis : ℕ → List ℕ} {cnt used generation : ℕ → ℕ} {wd : ℕ 
   -- an object is made on top of area b
   pub mem-alloc : (b : ℕ) (o : Object) (used′ : ℕ → ℕ) (wd′ : ℕ → ℕ → ℕ) (bit′ : ℕ → ℕ → Bool) → b < 64
       → (2 ≤ b → 0 < cnt b)
-      → place o ≡ used b → used′ b ≡ suc (used b + o .slots + o .words) → ((a : ℕ) → a ≢ b → used′ a ≡ used a)
-      → Tile (wd′ b) (bit′ b) (λ w. w ≡ 0) (λ x. handleOf x b (generation b)) o (suc (used b + o .slots + o .words))
+      → place o ≡ used b → used′ b ≡ suc (used b + o .slots + o .dataWords) → ((a : ℕ) → a ≢ b → used′ a ≡ used a)
+      → Tile (wd′ b) (bit′ b) (λ w. w ≡ 0) (λ x. handleOf x b (generation b)) o (suc (used b + o .slots + o .dataWords))
       → ((a j : ℕ) → a < 64 → j < used a → wd′ a j ≡ wd a j) → ((a j : ℕ) → a < 64 → j < used a → bit′ a j ≡ bit a j)
       → Mem dis cnt used′ generation wd′ bit′ (putAt objects b (o ∷ objects b))
   mem-alloc b o used′ wd′ bit′ hb ob pl us uo t f g = record {
@@ -150,7 +150,7 @@ module _ {dis : ℕ → List ℕ} {cnt used generation : ℕ → ℕ} {wd : ℕ 
         reach = n .reach;
       }
 
-      tile : Tile (wd′ b) (bit′ b) (Ok next dis b) (λ x. handleOf x b (generation b)) o (suc (used b + o .slots + o .words))
+      tile : Tile (wd′ b) (bit′ b) (Ok next dis b) (λ x. handleOf x b (generation b)) o (suc (used b + o .slots + o .dataWords))
       tile = record { made = t .made; ends = t .ends; head = t .head; on = t .on; off = t .off; refs = λ j h. inl (t .refs j h) }
 
       here : Tiled (wd′ b) (bit′ b) (Ok next dis b) (λ x. handleOf x b (generation b)) (next b) (used′ b)

@@ -106,7 +106,7 @@ module _ (s : State) (m : Memory) (b : History) (o : Sound s m b) (p : ℕ) (lv 
   -- a data word
   module _ (i : ℕ) (h : i < dataOf (headerAt s m p)) where
     data-in : suc (offsetOf p + dataIndex s m p i) < usedIn s (areaOf p)
-    data-in = omega (arith, given-head s m b o p given .slots, given-head s m b o p given .words, given-ends s m b o p given)
+    data-in = omega (arith, given-head s m b o p given .slots, given-head s m b o p given .dataWords, given-ends s m b o p given)
 
     pub sound-write : (r : ℕ) → Sound s (storeAfter s m p (dataIndex s m p i) r) b
     unfolding storeAfter
@@ -117,8 +117,8 @@ module _ (s : State) (m : Memory) (b : History) (o : Sound s m b) (p : ℕ) (lv 
       where
         -- it lies among the data words of every object with that handle
         among : (x : Object) → x .handle ≡ p → Header (wordAt s m (areaOf p) (place x)) x
-            → (place x + x .slots < suc (offsetOf p + dataIndex s m p i)) × (suc (offsetOf p + dataIndex s m p i) ≤ place x + x .slots + x .words)
+            → (place x + x .slots < suc (offsetOf p + dataIndex s m p i)) × (suc (offsetOf p + dataIndex s m p i) ≤ place x + x .slots + x .dataWords)
         among x e hd =
             let at : place x ≡ offsetOf p = ap offsetOf e in
             let is : Header (headerAt s m p) x = rw at at hd in
-            omega (arith, is .slots, is .words)
+            omega (arith, is .slots, is .dataWords)

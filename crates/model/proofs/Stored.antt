@@ -69,11 +69,11 @@ module _ (s : State) (m : Memory) (b : History) (o : Sound s m b) where
     target-slots : slotsOf (headerAt s m p) ≡ target .slots
     target-slots = given-head s m b o p is-given .slots
 
-    target-words : dataOf (headerAt s m p) ≡ target .words
-    target-words = given-head s m b o p is-given .words
+    target-words : dataOf (headerAt s m p) ≡ target .dataWords
+    target-words = given-head s m b o p is-given .dataWords
 
     -- a slot of another object, or another word of p's, is as it was
-    other-slot : (i v : ℕ) → i < target .slots + target .words → (a : ℕ) (x : Object) → In x (b .objects a) → (j : ℕ) → j < x .slots
+    other-slot : (i v : ℕ) → i < target .slots + target .dataWords → (a : ℕ) (x : Object) → In x (b .objects a) → (j : ℕ) → j < x .slots
         → (x .handle ≡ p → j ≡ i → ⊥) → wordAt s (storeAfter s m p i v) a (suc (place x + j)) ≡ wordAt s m a (suc (place x + j))
     unfolding storeAfter
     other-slot i v l a x k j q ne = put-other-word s m b o (areaOf p) (suc (offsetOf p + i)) v (area-lt p) (omega (arith, given-ends s m b o p is-given))
@@ -88,7 +88,7 @@ module _ (s : State) (m : Memory) (b : History) (o : Sound s m b) where
             ne (ap (λ (y : Object). y .handle) is ∙ target-handle) (omega arith)
 
     -- the word itself is the new one
-    own-word : (i v : ℕ) → i < target .slots + target .words → wordAt s (storeAfter s m p i v) (areaOf p) (suc (offsetOf p + i)) ≡ v
+    own-word : (i v : ℕ) → i < target .slots + target .dataWords → wordAt s (storeAfter s m p i v) (areaOf p) (suc (offsetOf p + i)) ≡ v
     unfolding storeAfter
     own-word i v l = put-word s m b o (areaOf p) (suc (offsetOf p + i)) v (area-lt p) (omega (arith, given-ends s m b o p is-given))
 
@@ -119,7 +119,7 @@ module _ (s : State) (m : Memory) (b : History) (o : Sound s m b) where
   module _ (f : ℕ → ℕ → ℕ) (w : Slots s m b f) where
     module _ (t q r : ℕ) (ok : AllocateOk s t q r) where
       abbrev made : Object
-      made = record { handle = allocateValue s (currentAt s t); slots = q; words = r }
+      made = record { handle = allocateValue s (currentAt s t); slots = q; dataWords = r }
 
       abbrev n : State
       n = allocateState s (currentAt s t) q r

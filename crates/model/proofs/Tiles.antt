@@ -27,13 +27,13 @@ topOf w = w / 268435456
 -- what a header says of its object: "s in bits 0 to 13, d in bits 14 to 27, the rest 0"
 pub record Header (w : ℕ) (o : Object) : Type 0 where
   pub slots : slotsOf w ≡ o .slots
-  pub words : dataOf w ≡ o .words
+  pub dataWords : dataOf w ≡ o .dataWords
   pub top : topOf w ≡ 0
 
 -- object o, whose words end at n: wd has the area's words, bit its start bits, ok says which words a slot may hold, mk makes a handle
 pub record Tile (wd : ℕ → ℕ) (bit : ℕ → Bool) (ok : ℕ → Type 0) (mk : ℕ → ℕ) (o : Object) (n : ℕ) : Type 0 where
   pub made : o .handle ≡ mk (place o)
-  pub ends : suc (place o + o .slots + o .words) ≡ n
+  pub ends : suc (place o + o .slots + o .dataWords) ≡ n
   pub head : Header (wd (place o)) o
   pub on : bit (place o) ≡ true
   pub off : (j : ℕ) → place o < j → j < n → bit j ≡ false
@@ -120,13 +120,13 @@ tiled-has wd bit ok mk os n h z p =
 
 -- a word at p is replaced, which is a data word of the object with handle h
 pub tiled-data : (wd wd′ : ℕ → ℕ) (bit : ℕ → Bool) (ok : ℕ → Type 0) (mk : ℕ → ℕ) (p h : ℕ)
-    → ((o : Object) → o .handle ≡ h → Header (wd (place o)) o → (place o + o .slots < p) × (p ≤ place o + o .slots + o .words))
+    → ((o : Object) → o .handle ≡ h → Header (wd (place o)) o → (place o + o .slots < p) × (p ≤ place o + o .slots + o .dataWords))
     → (os : List Object) (n : ℕ) → ((j : ℕ) → j < n → j ≢ p → wd′ j ≡ wd j) → 0 < occurrences h (handles os) → Tiled wd bit ok mk os n → Tiled wd′ bit ok mk os n
 tiled-data wd wd′ bit ok mk p h d [] n f q z = z
 tiled-data wd wd′ bit ok mk p h d (o ∷ os) n f q z =
     cases
     (eqb (o .handle) h)
-    (λ e. let i : (place o + o .slots < p) × (p ≤ place o + o .slots + o .words) = d o (eqb-true (o .handle) h e) (z .0 .head) in (
+    (λ e. let i : (place o + o .slots < p) × (p ≤ place o + o .slots + o .dataWords) = d o (eqb-true (o .handle) h e) (z .0 .head) in (
       tile (λ x. omega (arith, i .0)) (λ j k x. omega (arith, i .0)),
       tiled-frame wd wd′ bit bit ok ok mk os (place o) (λ j k. f j (omega (arith, z .0 .ends)) (λ x. omega (arith, i .0))) (λ j k. refl) (λ w k. k) (z .1),
     ))
@@ -153,20 +153,20 @@ tiled-data wd wd′ bit ok mk p h d (o ∷ os) n f q z =
 -- a new object on top
 pub tiled-push : (wd wd′ : ℕ → ℕ) (bit bit′ : ℕ → Bool) (ok ok′ : ℕ → Type 0) (mk : ℕ → ℕ) (os : List Object) (n : ℕ) (o : Object)
     → ((j : ℕ) → j < n → wd′ j ≡ wd j) → ((j : ℕ) → j < n → bit′ j ≡ bit j) → ((w : ℕ) → ok w → ok′ w) → place o ≡ n
-    → Tile wd′ bit′ ok′ mk o (suc (n + o .slots + o .words))
-    → Tiled wd bit ok mk os n → Tiled wd′ bit′ ok′ mk (o ∷ os) (suc (n + o .slots + o .words))
+    → Tile wd′ bit′ ok′ mk o (suc (n + o .slots + o .dataWords))
+    → Tiled wd bit ok mk os n → Tiled wd′ bit′ ok′ mk (o ∷ os) (suc (n + o .slots + o .dataWords))
 tiled-push wd wd′ bit bit′ ok ok′ mk os n o f g k e t z =
     (t, rw e (tiled-frame wd wd′ bit bit′ ok ok′ mk os n f g k z))
 
 -- an object ends below the one that was made after it, so two that share a word are one
 module _ (wd : ℕ → ℕ) (bit : ℕ → Bool) (ok : ℕ → Type 0) (mk : ℕ → ℕ) where
-  below-newer : {o : Object} {os : List Object} (x : Object) → In o os → Tiled wd bit ok mk os (place x) → place o + o .slots + o .words < place x
+  below-newer : {o : Object} {os : List Object} (x : Object) → In o os → Tiled wd bit ok mk os (place x) → place o + o .slots + o .dataWords < place x
   below-newer {o} x i z =
       let t : (m : ℕ) × Tile wd bit ok mk o m × (m ≤ place x) = tiled-in (place x) i z in
       omega (arith, t .1 .ends, t .2)
 
   pub tiled-apart : {o p : Object} {os : List Object} (n : ℕ) → In o os → In p os → Tiled wd bit ok mk os n
-      → (k : ℕ) → place o ≤ k → k ≤ place o + o .slots + o .words → place p ≤ k → k ≤ place p + p .slots + p .words → o ≡ p
+      → (k : ℕ) → place o ≤ k → k ≤ place o + o .slots + o .dataWords → place p ≤ k → k ≤ place p + p .slots + p .dataWords → o ≡ p
   tiled-apart n first first z k a b c d = refl
   tiled-apart {o} n first (later j) z k a b c d = absurd (omega (arith, below-newer o j (z .1)))
   tiled-apart {p = p} n (later i) first z k a b c d = absurd (omega (arith, below-newer p i (z .1)))

@@ -66,11 +66,11 @@ module _ (b : History) (l : Line) (ok : l .reply .status ≡ 0) (a : ℕ) (x : O
   Born = In x (b .objects a) ⊎ Allocates b l (x .handle) a
 
   born-allocate : (t q r : ℕ) → l .call ≡ allocate t q r
-      → In x (historyAllocate b t (record { handle = l .reply .value; slots = q; words = r }) .objects a) → Born
+      → In x (historyAllocate b t (record { handle = l .reply .value; slots = q; dataWords = r }) .objects a) → Born
   born-allocate t q r e i = ⊎-elim
-      (λ k. inr (record { thread = t; slots = q; words = r; call = e; accepted = ok; gave = sym (ap (λ (y : Object). y .handle) (k .1)); area = sym (k .0) }))
+      (λ k. inr (record { thread = t; slots = q; dataWords = r; call = e; accepted = ok; gave = sym (ap (λ (y : Object). y .handle) (k .1)); area = sym (k .0) }))
       (λ k. inl k)
-      (made-or b t (record { handle = l .reply .value; slots = q; words = r }) a x i)
+      (made-or b t (record { handle = l .reply .value; slots = q; dataWords = r }) a x i)
 
   -- an object of the book has been there, or the line made it
   born-step : (c : Call) → l .call ≡ c → In x (historyStep b c (l .reply .value) .objects a) → Born

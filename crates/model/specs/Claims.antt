@@ -62,7 +62,7 @@ pub data Among (x : ℕ) : List ℕ → Type 0 where
 pub record Within (s : State) (m : Memory) (a : ℕ) (o : Object) : Type 0 where
   pub area : areaOf (o .handle) ≡ a
   pub number : a < 64
-  pub ends : suc (offsetOf (o .handle) + o .slots + o .words) ≤ areaAt s a .used
+  pub ends : suc (offsetOf (o .handle) + o .slots + o .dataWords) ≤ areaAt s a .used
   pub used : areaAt s a .used ≤ areaAt s a .size
   pub inside : areaAt s a .start + areaAt s a .size ≤ length (storeOf m a)
 
@@ -70,8 +70,8 @@ pub record Within (s : State) (m : Memory) (a : ℕ) (o : Object) : Type 0 where
 pub record Allocates (b : History) (l : Line) (x a : ℕ) : Type 0 where
   pub thread : ℕ
   pub slots : ℕ
-  pub words : ℕ
-  pub call : l .call ≡ allocate thread slots words
+  pub dataWords : ℕ
+  pub call : l .call ≡ allocate thread slots dataWords
   pub accepted : l .reply .status ≡ 0
   pub gave : l .reply .value ≡ x
   pub area : current (threadRow b thread) ≡ a

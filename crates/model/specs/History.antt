@@ -14,7 +14,7 @@ use Rattle.model.specs.Run.{Line}
 pub record Object : Type 0 where
   pub handle : ℕ
   pub slots : ℕ
-  pub words : ℕ
+  pub dataWords : ℕ
 
 -- "a row of areas for each started thread, a parent for each open scope, and the objects made": a row has its top first; a parent is 0 for
 -- none; the live objects stand by area, the newest first; gone has the handles of the objects that are gone
@@ -95,7 +95,7 @@ historyStep b (end t) v = historyStart b t false
 historyStep b (make t q r) v = b
 historyStep b (enter t q) v = historyEnter b t q
 historyStep b (exit t) v = historyExit b t
-historyStep b (allocate t q r) v = historyAllocate b t (record { handle = v; slots = q; words = r })
+historyStep b (allocate t q r) v = historyAllocate b t (record { handle = v; slots = q; dataWords = r })
 historyStep b (store t p q r) v = b
 historyStep b (load t p q) v = b
 historyStep b (write t p q r) v = b
