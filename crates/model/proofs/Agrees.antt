@@ -1,4 +1,4 @@
--- The book follows the state: set-up leaves both alike, and so does every accepted call.
+-- The history follows the state: set-up leaves both alike, and so does every accepted call.
 -- Assumes nothing.
 use Prim.Native.Nat.{ℕ, suc, _+_, _≤_, _<_}
 use mathlib.Core.Bool.{Bool, true, false}
@@ -83,7 +83,7 @@ module _ (s : State) (t q : ℕ) (g : Good s) (ok : EnterOk s t q) (b : History)
   enter-rows : stacksIn (enterState s t q) ≡ set (b .rows) t (q ∷ threadRow b t)
   enter-rows = enter-stacks s t q g ok ∙ ap (λ (r : List (List ℕ)). set r t (q ∷ getD r t [])) (e .rows)
 
-  -- how many entries of q the book has
+  -- how many entries of q the history has
   counted : 2 ≤ q → areaAt s q .count ≡ total q (b .rows)
   counted h = g .nesting .counts q h (ok .area) ∙ ap (total q) (e .rows)
 
@@ -123,7 +123,7 @@ module _ (s : State) (t q : ℕ) (g : Good s) (ok : EnterOk s t q) (b : History)
 -- ---- exit
 
 module _ (s : State) (t : ℕ) (g : Good s) (ok : ExitOk s t) (b : History) (e : Same s b) where
-  -- the book's row has the core's top
+  -- the history's row has the core's top
   pub row-top : threadRow b t ≡ currentAt s t ∷ entriesOf (popped (threadAt s t))
   row-top = ap (λ (r : List (List ℕ)). getD r t []) (sym (e .rows)) ∙ pop-is s t g ok
 
@@ -134,7 +134,7 @@ module _ (s : State) (t : ℕ) (g : Good s) (ok : ExitOk s t) (b : History) (e :
   exit-rows : stacksIn (exitState s t) ≡ set (b .rows) t (entriesOf (popped (threadAt s t)))
   exit-rows = exit-stacks s t g ok ∙ ap (λ (r : List (List ℕ)). set r t (entriesOf (popped (threadAt s t)))) (e .rows)
 
-  -- how many entries of the top the book has then
+  -- how many entries of the top the history has then
   pub left-count : 2 ≤ currentAt s t → suc (total (currentAt s t) (set (b .rows) t (entriesOf (popped (threadAt s t))))) ≡ areaAt s (currentAt s t) .count
   left-count h = omega (
     arith,

@@ -1,4 +1,4 @@
--- Every accepted call keeps state, memory and book sound, and set-up gives a sound beginning: given that the state and the book stay good.
+-- Every accepted call keeps state, memory and history sound, and set-up gives a sound beginning: given that the state and the history stay good.
 -- Assumes nothing.
 use Prim.Native.Nat.{ℕ, zero, suc}
 use mathlib.Core.Bool.{true}

@@ -170,7 +170,7 @@ order-among (keep o) Among.first = Among.first
 order-among (keep o) (Among.later i) = Among.later (order-among o i)
 order-among (skip o) i = Among.later (order-among o i)
 
--- ---- the book's objects
+-- ---- the history's objects
 
 -- an accepted allocation makes one object, in its area, with the handle that it gave
 pub allocates-is : {b : History} {l : Line} {x a : ℕ} → Allocates b l x a
@@ -289,7 +289,7 @@ since-given (stays {l = l} {ls = ls} s o) = one-newer l ls o (since-given s)
 pub since-open : {x a : ℕ} {ls : List Line} → Since x a ls → 2 ≤ a → Open (historyOf ls) a
 since-open s h = let z = since-given s in rw (z .trace) (z .always h [] (z .newer) refl)
 
--- what names an object is the handle of one that the book has, and was given for it
+-- what names an object is the handle of one that the history has, and was given for it
 pub names-is : {b : History} {ls : List Line} {x : ℕ} → Names b ls x → (a : ℕ) × Among x (handles (b .objects a)) × Given x a ls
 names-is n = (n .area, rw (n .handle) at (among-handles (n .live)), since-given (n .since))
 

@@ -1,4 +1,4 @@
--- The invariant of the memory, over what is seen of it: words and start bits by area and offset, and the book's objects.
+-- The invariant of the memory, over what is seen of it: words and start bits by area and offset, and the history's objects.
 -- Assumes nothing.
 use Prim.Native.Nat.{ℕ, suc, _+_, _≤_, _<_}
 use mathlib.Core.Bool.{Bool, false}

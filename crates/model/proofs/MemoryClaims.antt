@@ -1,4 +1,4 @@
--- What a sound memory says for the claims: what slots hold, that no load yields 15, and which handles the book's objects have.
+-- What a sound memory says for the claims: what slots hold, that no load yields 15, and which handles the history's objects have.
 -- Assumes nothing.
 use Prim.Native.Nat.{ℕ, suc, _+_, _≤_, _<_}
 use mathlib.Core.Bool.{Bool, true, false, not, _||_, false≢true}

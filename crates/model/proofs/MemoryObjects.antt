@@ -209,7 +209,7 @@ module _ (s : State) (m : Memory) (b : History) (o : Sound s m b) (c slots dataW
       (fits-also s m (o .supplied) marked refl refl (length-bits (m .map) (bitIndex s c (usedIn s c)) (slots + dataWords)))
       (length-object (storeOf m c) (areaAt s c .start + usedIn s c) slots dataWords))
 
-  -- with a book that has it first among the objects of c
+  -- with a history that has it first among the objects of c
   sound-made : (d : History) → Good (allocateState s c slots dataWords) → Same (allocateState s c slots dataWords) d → (2 ≤ c → 0 < countIn s c)
       → d .objects ≡ putAt (b .objects) c (record { handle = allocateValue s c; slots = slots; dataWords = dataWords } ∷ b .objects c) → d .gone ≡ b .gone
       → Sound (allocateState s c slots dataWords) (allocateMemory s m c slots dataWords) d

@@ -96,7 +96,7 @@ module _ (s : State) (m : Memory) (b : History) (o : Sound s m b) where
     area : top < 64
     area = current-area s (o .good) t (k .called .thread)
 
-    -- what the book does where the top is on no row then, and where it is
+    -- what the history does where the top is on no row then, and where it is
     history-drops : isScopeOnNone top rest ≡ true → (historyExit b t .objects ≡ putAt (b .objects) top []) × (historyExit b t .gone ≡ handles (b .objects top) ++ b .gone)
     unfolding historyExit
     history-drops e = (rw (row, e), rw (row, e))

@@ -26,7 +26,7 @@ use Rattle.model.proofs.Parts.{stack-is, nesting-same}
 use Rattle.model.proofs.Bounds.{by-area}
 
 module _ (s : State) (b : History) (g : Good s) (e : Same s b) where
-  -- the nesting of the core, with the book's parents and rows
+  -- the nesting of the core, with the history's parents and rows
   pub history-nesting : Nesting (b .parents) (displayAt s) (countIn s) (b .rows)
   history-nesting = nesting-same (g .nesting) (λ a. (sym (e .parents a), refl)) (λ a. refl) (sym (e .rows))
 
@@ -46,7 +46,7 @@ module _ (s : State) (b : History) (g : Good s) (e : Same s b) where
   past : (a : ℕ) → 64 ≤ a → areaAt s a ≡ noArea
   past a h = List·getD-eq-default (s .areas) noArea {n = a} (omega (arith, g .areas))
 
-  -- ---- the book's things
+  -- ---- the history's things
 
   pub started : (t : ℕ) → isStarted s t ≡ b .started t
   started = e .started

@@ -50,7 +50,7 @@ carried-all {q = q} e k a = cases (eqb a q)
     (λ d. carried-same (e .others a (eqb-false a q d) .area))
 
 module _ (s : State) (m : Memory) (b : History) (o : Sound s m b) where
-  -- a scope is open where the book has it on a row
+  -- a scope is open where the history has it on a row
   count-is : (a : ℕ) → 2 ≤ a → a < 64 → areaAt s a .count ≡ total a (b .rows)
   count-is = history-nesting s b (o .good) (o .same) .counts
 

@@ -39,7 +39,7 @@ use Rattle.model.proofs.Traces.{area-below, exit-kept, made-or, made-in
 use Rattle.model.proofs.ValueMeanings.{stored-accepted, stored-refused}
 use Rattle.model.proofs.Openings.{carried-call}
 
--- slot j of the object with handle h holds f h j, for the objects of the book
+-- slot j of the object with handle h holds f h j, for the objects of the history
 abbrev Slots : State → Memory → History → (ℕ → ℕ → ℕ) → Type 0
 Slots s m b f = (a : ℕ) (x : Object) → In x (b .objects a) → (j : ℕ) → j < x .slots → wordAt s m a (suc (place x + j)) ≡ f (x .handle) j
 
@@ -56,7 +56,7 @@ module _ (s : State) (m : Memory) (b : History) (o : Sound s m b) where
     is-given : 0 < occurrences p (handles (b .objects (areaOf p)))
     is-given = live-given s m b o p lv
 
-    -- the object of the book that p names
+    -- the object of the history that p names
     abbrev target : Object
     target = given-tile s m b o p is-given .0
 

@@ -28,7 +28,7 @@ use Rattle.model.proofs.LineClaims.{AllAnswer, line-answers, each-answe
 
 -- ---- one element of the list
 
--- a world with the book of its trace
+-- a world with the history of its trace
 abbrev Holds : World → Type 0
 Holds w = Sound (w .state) (w .memory) (historyOf (w .trace))
 

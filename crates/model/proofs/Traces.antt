@@ -1,4 +1,4 @@
--- What a trace tells beside the book: where an object comes from, that what is gone stays gone, that an area with objects is open.
+-- What a trace tells beside the history: where an object comes from, that what is gone stays gone, that an area with objects is open.
 -- Assumes nothing.
 use Prim.Native.Nat.{ℕ, _≤_, _<_}
 use mathlib.Core.Bool.{false}
@@ -23,7 +23,7 @@ use Rattle.model.proofs.Sound.{Sound}
 use Rattle.model.proofs.NestingClaims.{opens}
 use Rattle.model.proofs.MemoryClaims.{no-objects-above}
 
--- ---- what the trace tells beside the book
+-- ---- what the trace tells beside the history
 
 -- what is put at one area is seen there and nowhere else
 put-in : (f : ℕ → List Object) (q : ℕ) (v : List Object) (a : ℕ) (x : Object) → In x (putAt f q v a) → (In x v × (a ≡ q)) ⊎ In x (f a)
@@ -72,7 +72,7 @@ module _ (b : History) (l : Line) (ok : l .reply .status ≡ 0) (a : ℕ) (x : O
       (λ k. inl k)
       (made-or b t (record { handle = l .reply .value; slots = q; dataWords = r }) a x i)
 
-  -- an object of the book has been there, or the line made it
+  -- an object of the history has been there, or the line made it
   born-step : (c : Call) → l .call ≡ c → In x (historyStep b c (l .reply .value) .objects a) → Born
   unfolding historyStart historyEnter
   born-step (start t p) e i = inl i

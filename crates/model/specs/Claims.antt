@@ -47,7 +47,7 @@ unfoldable pub scan : ℕ → ℕ → List ℕ → Bool
 scan a b [] = false
 scan a b (x ∷ l) = pick (eqb x b) (onRow a (x ∷ l)) (scan a b l)
 
--- o is one of a list of objects. "An object is live until it is gone": the live ones are those that the book has in an area.
+-- o is one of a list of objects. "An object is live until it is gone": the live ones are those that the history has in an area.
 pub data In (o : Object) : List Object → Type 0 where
   first : {l : List Object} → In o (o ∷ l)
   later : {x : Object} {l : List Object} → In o l → In o (x ∷ l)
@@ -82,7 +82,7 @@ pub data Since (x a : ℕ) : List Line → Type 0 where
   made : {l : Line} {ls : List Line} → Allocates (historyOf ls) l x a → Since x a (l ∷ ls)
   stays : {l : Line} {ls : List Line} → Since x a ls → (2 ≤ a → Open (historyOf (l ∷ ls)) a) → Since x a (l ∷ ls)
 
--- "names the object with that handle": x is the handle of a live object of the book, one "in the heap, in immortal memory, or in a scope
+-- "names the object with that handle": x is the handle of a live object of the history, one "in the heap, in immortal memory, or in a scope
 -- that, by the list of calls alone, has never been empty of threads since that object was made"
 pub record Names (b : History) (ls : List Line) (x : ℕ) : Type 0 where
   pub area : ℕ
@@ -98,9 +98,9 @@ pub data Follows (l : Line) (before : List Line) : List Line → Type 0 where
 
 -- ---- the claims
 
--- Of a world that a list of calls has led to, with its book. None holds by a read past the end of a table or of a store: there a thread is
+-- Of a world that a list of calls has led to, with its history. None holds by a read past the end of a table or of a store: there a thread is
 -- not started, an area is not open, a row is empty, a map bit is 0, an entry of a display is 0, which is no scope. Threads and scopes that
--- the book has lie inside (threads, scopes), and so do the entries of a stack, which would read as the heap (room), and every slot of a
+-- the history has lie inside (threads, scopes), and so do the entries of a stack, which would read as the heap (room), and every slot of a
 -- live object, which would read as null (within).
 pub record Claims (w : World) (b : History) : Type 0 where
   -- 1. "The core has the book's started threads, stacks, open scopes and parents."

@@ -40,7 +40,7 @@ lastStored o i (l ∷ ls) = storedLine o i (lastStored o i ls) l
 
 -- ---- op 04: "value: turn"
 
--- the last opening of a gave g, then a call is accepted with value v, after the book b: an entry of "a scope on no row" opens it
+-- the last opening of a gave g, then a call is accepted with value v, after the history b: an entry of "a scope on no row" opens it
 abbrev pub openingStep : History → ℕ → ℕ → Call → ℕ → ℕ
 openingStep b a g (start t p) v = g
 openingStep b a g (end t) v = g
