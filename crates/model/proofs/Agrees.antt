@@ -19,7 +19,7 @@ use Rattle.model.specs.Checks.{isStarted}
 use Rattle.model.specs.Threads.{startState, endState}
 use Rattle.model.specs.Scopes.{madeArea, makeState, pushed, enterState, popped, exitState}
 use Rattle.model.specs.Objects.{currentAt, grown, allocateState}
-use Rattle.model.specs.Calls.{Call, start, end, make, enter, exit, allocate, store, load, write, read, view, viewed, callStatus, callState}
+use Rattle.model.specs.Calls.{Call, start, end, make, enter, exit, allocate, store, write, asks, callStatus, callState}
 use Rattle.model.specs.History.{Object, History, blank, threadRow, occurrences, total, historyStart, historyEnter, historyExit, historyAllocate, historyStep}
 use Rattle.model.specs.Invariant.{parentIn, stacksIn, Good}
 use Rattle.model.proofs.Accepted.{fitted-ok, start-ok, end-ok, make-ok, MakeOk, enter-ok, EnterOk, exit-ok, ExitOk, allocate-ok, AllocateOk}
@@ -215,8 +215,5 @@ same-call s m b (enter t q) v g e z = same-enter s t q g (enter-ok s t q (fitted
 same-call s m b (exit t) v g e z = same-exit s t g (exit-ok s t (fitted-ok s m _ z .1)) b e
 same-call s m b (allocate t q r) v g e z = same-allocate s t q r g (allocate-ok s t q r (fitted-ok s m _ z .1)) b _ e
 same-call s m b (store t p q r) v g e z = e
-same-call s m b (load t p q) v g e z = e
 same-call s m b (write t p q r) v g e z = e
-same-call s m b (read t p q) v g e z = e
-same-call s m b (view t p) v g e z = e
-same-call s m b (viewed t p) v g e z = e
+same-call s m b (asks x) v g e z = e

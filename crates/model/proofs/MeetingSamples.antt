@@ -6,7 +6,7 @@ use mathlib.Core.Path.{_≡_, refl}
 use lib.ListN.{set}
 use Rattle.model.specs.State.{areaAt, withGeneration, withArea}
 use Rattle.model.specs.Scopes.{lastGeneration}
-use Rattle.model.specs.Calls.{Call, start, end, make, enter, exit, allocate, store, load, write, read, viewed}
+use Rattle.model.specs.Calls.{Call, start, end, make, enter, exit, allocate, store, load, write, read, viewStatus}
 use Rattle.model.specs.Run.{World}
 use Rattle.model.proofs.SampleRuns.{after, each, supplied, withState, copies, busy, inHeap, inImmortal, in2}
 
@@ -16,7 +16,7 @@ use Rattle.model.proofs.SampleRuns.{after, each, supplied, withState, c
 pub wrong : ℕ → List Call
 wrong t =
     start t 0 ∷ end t ∷ make t 64 0 ∷ enter t 64 ∷ exit t ∷ allocate t 99 99
-    ∷ store t 0 9 1 ∷ load t 0 9 ∷ write t 0 9 0 ∷ read t 0 9 ∷ viewed t 0 ∷ []
+    ∷ store t 0 9 1 ∷ load t 0 9 ∷ write t 0 9 0 ∷ read t 0 9 ∷ viewStatus t 0 ∷ []
 
 -- the scratch store is one word short
 pub short : World
@@ -68,7 +68,7 @@ unfolding each busy
 allocate-meets = refl
 
 -- ops 07 to 0a and the shown part: 13 and 5
-pub object-meets : each busy (store 3 1048577 9 1 ∷ load 3 1048577 9 ∷ write 3 1048577 9 0 ∷ read 3 1048577 9 ∷ viewed 3 1048577 ∷ []) ≡ copies 5 13
+pub object-meets : each busy (store 3 1048577 9 1 ∷ load 3 1048577 9 ∷ write 3 1048577 9 0 ∷ read 3 1048577 9 ∷ viewStatus 3 1048577 ∷ []) ≡ copies 5 13
 unfolding each busy
 object-meets = refl
 

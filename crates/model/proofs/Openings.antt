@@ -15,7 +15,7 @@ use Rattle.model.specs.State.{State, Memory, areaAt, threadAt, entriesOf
 use Rattle.model.specs.SetUp.{firstState}
 use Rattle.model.specs.Scopes.{enterState, enterValue, popped, exitState, exitValue}
 use Rattle.model.specs.Objects.{currentAt}
-use Rattle.model.specs.Calls.{Call, start, end, make, enter, exit, allocate, store, load, write, read, view, viewed, callStatus, callValue, callState}
+use Rattle.model.specs.Calls.{Call, start, end, make, enter, exit, allocate, store, write, asks, callStatus, callValue, callState}
 use Rattle.model.specs.Run.{Line}
 use Rattle.model.specs.History.{History, total, historyExit, historyOf}
 use Rattle.model.specs.Values.{openingStep, lastOpening, entryGeneration, entriesLeft}
@@ -108,11 +108,8 @@ module _ (s : State) (m : Memory) (b : History) (o : Sound s m b) where
       carried-all (allocate-alters s (o .good .areas) (currentAt s t) (current-area s (o .good) t (k .called .thread)) q r)
       record { start = λ p. refl; generation = refl } a
   carried-call (store t p q r) z a = carried-same refl
-  carried-call (load t p q) z a = carried-same refl
   carried-call (write t p q r) z a = carried-same refl
-  carried-call (read t p q) z a = carried-same refl
-  carried-call (view t p) z a = carried-same refl
-  carried-call (viewed t p) z a = carried-same refl
+  carried-call (asks x) z a = carried-same refl
 
 -- ---- generations and openings
 

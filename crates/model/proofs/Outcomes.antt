@@ -10,7 +10,7 @@ use borrow.Author.Tests.{eqb-true, eqb-false, eq-eqb, ne-eqb}
 use Rattle.layout.specs.Choice.{pick, cases, hit}
 use Rattle.model.specs.State.{State, Memory}
 use Rattle.model.specs.Checks.{fits, fitted}
-use Rattle.model.specs.Calls.{Call, start, end, make, enter, exit, allocate, store, load, write, read, view, viewed, callStatus, callValue, callState, callMemory, outcomeOf}
+use Rattle.model.specs.Calls.{Call, start, end, make, enter, exit, allocate, store, write, Question, loads, reads, views, viewsStatus, asks, view, callStatus, callValue, callState, callMemory, outcomeOf}
 use Rattle.model.specs.Run.{Line}
 use Rattle.model.specs.History.{History, historyStep, historyLine}
 use Rattle.model.proofs.Sound.{Sound}
@@ -81,6 +81,12 @@ module _ (s : State) (n : Memory) (u : fits s n ≡ false) where
   unfolding fitted
   unfit-fitted rest = hit (not (fits s n)) 1 _ (ap not u)
 
+  unfit-question : (x : Question) → (callStatus s n (asks x) ≡ 1) ⊎ IsView (asks x)
+  unfit-question (loads t p q) = inl (unfit-fitted _)
+  unfit-question (reads t p q) = inl (unfit-fitted _)
+  unfit-question (views t p) = inr (is-view t p)
+  unfit-question (viewsStatus t p) = inl (unfit-fitted _)
+
   -- "1: lengths are not those of set-up", before every other refusal
   unfit-status : (c : Call) → (callStatus s n c ≡ 1) ⊎ IsView c
   unfit-status (start t p) = inl (unfit-fitted _)
@@ -90,11 +96,8 @@ module _ (s : State) (n : Memory) (u : fits s n ≡ false) where
   unfit-status (exit t) = inl (unfit-fitted _)
   unfit-status (allocate t q r) = inl (unfit-fitted _)
   unfit-status (store t p q r) = inl (unfit-fitted _)
-  unfit-status (load t p q) = inl (unfit-fitted _)
   unfit-status (write t p q r) = inl (unfit-fitted _)
-  unfit-status (read t p q) = inl (unfit-fitted _)
-  unfit-status (view t p) = inr (is-view t p)
-  unfit-status (viewed t p) = inl (unfit-fitted _)
+  unfit-status (asks x) = unfit-question x
 
   -- what it is lent is left as it was
   pub unfit-memory : (c : Call) → outcomeOf s n c .memory ≡ n

@@ -20,7 +20,7 @@ use Rattle.model.specs.Scopes.{makeState, enterState, exitState}
 use Rattle.model.specs.Objects.{currentAt, allocateState, allocateMemory, allocateValue}
 use Rattle.model.specs.References.{storeAfter, loadRest}
 use Rattle.model.specs.Data.{dataIndex}
-use Rattle.model.specs.Calls.{Call, start, end, make, enter, exit, allocate, store, load, write, read, view, viewed, callStatus, callValue, callState, callMemory}
+use Rattle.model.specs.Calls.{Call, start, end, make, enter, exit, allocate, store, write, asks, load, callStatus, callValue, callState, callMemory}
 use Rattle.model.specs.Run.{Line}
 use Rattle.model.specs.History.{Object, History, occurrences, handles, historyStart, historyEnter, historyAllocate, historyStep, historyFrom, historyOf}
 use Rattle.model.specs.Values.{storedStep, lastStored}
@@ -160,13 +160,10 @@ module _ (s : State) (m : Memory) (b : History) (o : Sound s m b) where
     slots-call (store t p q r) e z =
         let k : StoreOk s m t p q r = store-ok s m t p q r (admitted s m t _ e .1) in
         slots-store p (k .at .used .object) f w q r (k .at .slot)
-    slots-call (load t p q) e z = w
     slots-call (write t p q r) e z =
         let k : DataOk s m t p q = data-ok s m t p q (admitted s m t _ e .1) in
         slots-write p (k .used .object) f w q r (k .index)
-    slots-call (read t p q) e z = w
-    slots-call (view t p) e z = w
-    slots-call (viewed t p) e z = w
+    slots-call (asks x) e z = w
 
 -- ---- the lines
 

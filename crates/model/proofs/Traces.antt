@@ -11,7 +11,7 @@ use native.Mathlib.Omega.{arith}
 use borrow.Author.Tests.{eqb-true, eqb-false, ltb-true, ltb-false}
 use Rattle.layout.specs.Choice.{cases}
 use Rattle.model.specs.State.{State, Memory, current, isOpen}
-use Rattle.model.specs.Calls.{Call, start, end, make, enter, exit, allocate, store, load, write, read, view, viewed}
+use Rattle.model.specs.Calls.{Call, start, end, make, enter, exit, allocate, store, write, asks}
 use Rattle.model.specs.Run.{Element, Line, World, step, run}
 use Rattle.model.specs.History.{Object, History, threadRow, putAt, below, occurrences, handles, isScopeOnNone, historyStart, historyEnter, historyExit, historyAllocate, historyStep, historyLine, historyFrom, historyOf}
 use Rattle.model.specs.Claims.{Open, In, Among, Allocates}
@@ -82,11 +82,8 @@ module _ (b : History) (l : Line) (ok : l .reply .status ≡ 0) (a : ℕ) (x : O
   born-step (exit t) e i = inl (exit-kept b t a x i)
   born-step (allocate t q r) e i = born-allocate t q r e i
   born-step (store t p q r) e i = inl i
-  born-step (load t p q) e i = inl i
   born-step (write t p q r) e i = inl i
-  born-step (read t p q) e i = inl i
-  born-step (view t p) e i = inl i
-  born-step (viewed t p) e i = inl i
+  born-step (asks y) e i = inl i
 
 pub born : (b : History) (l : Line) (a : ℕ) (x : Object) → In x (historyLine b l .objects a) → In x (b .objects a) ⊎ Allocates b l (x .handle) a
 unfolding historyLine
@@ -116,11 +113,8 @@ gone-step b (enter t q) v x i = i
 gone-step b (exit t) v x i = gone-exit b t x i
 gone-step b (allocate t q r) v x i = i
 gone-step b (store t p q r) v x i = i
-gone-step b (load t p q) v x i = i
 gone-step b (write t p q r) v x i = i
-gone-step b (read t p q) v x i = i
-gone-step b (view t p) v x i = i
-gone-step b (viewed t p) v x i = i
+gone-step b (asks y) v x i = i
 
 gone-line : (b : History) (l : Line) (x : ℕ) → Among x (b .gone) → Among x (historyLine b l .gone)
 unfolding historyLine

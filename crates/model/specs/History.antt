@@ -7,7 +7,7 @@ use lib.Dec.{eqb}
 use lib.ListN.{getD, set, replicate}
 use Rattle.layout.specs.Choice.{pick}
 use Rattle.model.specs.State.{current, innermost, isScope}
-use Rattle.model.specs.Calls.{Call, start, end, make, enter, exit, allocate, store, load, write, read, view, viewed}
+use Rattle.model.specs.Calls.{Call, start, end, make, enter, exit, allocate, store, write, asks}
 use Rattle.model.specs.Run.{Line}
 
 -- an object made: its handle, its slots and its data words
@@ -97,11 +97,8 @@ historyStep b (enter t q) v = historyEnter b t q
 historyStep b (exit t) v = historyExit b t
 historyStep b (allocate t q r) v = historyAllocate b t (record { handle = v; slots = q; dataWords = r })
 historyStep b (store t p q r) v = b
-historyStep b (load t p q) v = b
 historyStep b (write t p q r) v = b
-historyStep b (read t p q) v = b
-historyStep b (view t p) v = b
-historyStep b (viewed t p) v = b
+historyStep b (asks x) v = b
 
 -- ".. and any refused call, change nothing."
 unfoldable pub historyLine : History → Line → History

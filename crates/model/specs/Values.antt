@@ -7,7 +7,7 @@ use lib.Dec.{eqb}
 use Rattle.layout.specs.Choice.{pick}
 use Rattle.layout.specs.Handle.{null}
 use Rattle.model.specs.State.{current, isScope}
-use Rattle.model.specs.Calls.{Call, start, end, make, enter, exit, allocate, store, load, write, read, view, viewed}
+use Rattle.model.specs.Calls.{Call, start, end, make, enter, exit, allocate, store, write, asks}
 use Rattle.model.specs.Run.{Line}
 use Rattle.model.specs.History.{History, threadRow, total, isScopeOnNone, historyExit, historyOf}
 
@@ -23,11 +23,8 @@ storedStep o i w (enter t q) v = w
 storedStep o i w (exit t) v = w
 storedStep o i w (allocate t q r) v = pick (eqb v o) null w
 storedStep o i w (store t p q r) v = pick (eqb p o && eqb q i) r w
-storedStep o i w (load t p q) v = w
 storedStep o i w (write t p q r) v = w
-storedStep o i w (read t p q) v = w
-storedStep o i w (view t p) v = w
-storedStep o i w (viewed t p) v = w
+storedStep o i w (asks x) v = w
 
 -- a refused call changes nothing
 unfoldable pub storedLine : ℕ → ℕ → ℕ → Line → ℕ
@@ -49,11 +46,8 @@ openingStep b a g (enter t q) v = pick (isScopeOnNone q (b .rows) && eqb q a) v 
 openingStep b a g (exit t) v = g
 openingStep b a g (allocate t q r) v = g
 openingStep b a g (store t p q r) v = g
-openingStep b a g (load t p q) v = g
 openingStep b a g (write t p q r) v = g
-openingStep b a g (read t p q) v = g
-openingStep b a g (view t p) v = g
-openingStep b a g (viewed t p) v = g
+openingStep b a g (asks x) v = g
 
 -- a refused call opens nothing
 unfoldable pub openingLine : History → ℕ → ℕ → Line → ℕ
