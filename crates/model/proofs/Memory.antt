@@ -89,37 +89,31 @@ module _ {dis : ℕ → List ℕ} {cnt used generation : ℕ → ℕ} {wd : ℕ 
     closed = m .closed;
   }
 
-  -- one word of area b is replaced, at an offset where no object starts, by one that a slot there may hold
-  pub mem-store : (b p : ℕ) (wd′ : ℕ → ℕ → ℕ) → bit b p ≡ false → Ok objects dis b (wd′ b p)
+  -- one word of area b is replaced, where its objects still lie as they should
+  mem-word : (b p : ℕ) (wd′ : ℕ → ℕ → ℕ)
+      → (b < 64 → ((j : ℕ) → j < used b → j ≢ p → wd′ b j ≡ wd b j) → Tiled (wd′ b) (bit b) (Ok objects dis b) (λ o. handleOf o b (generation b)) (objects b) (used b))
       → ((a j : ℕ) → a < 64 → j < used a → (a ≡ b → j ≡ p → ⊥) → wd′ a j ≡ wd a j) → Mem dis cnt used generation wd′ bit objects
-  mem-store b p wd′ e k f = record {
+  mem-word b p wd′ here f = record {
     tiles = λ a h. cases (eqb a b)
-        (λ q. here a h (eqb-true a b q))
+        (λ q. let k : b < 64 = rw (eqb-true a b q) at h in rw (eqb-true a b q) (here k (λ j i ne. f b j k i (λ x y. ne y))))
         (λ q. tiled-frame (wd a) (wd′ a) (bit a) (bit a) (Ok objects dis a) (Ok objects dis a) (λ o. handleOf o a (generation a)) (objects a) (used a)
         (λ j i. f a j h i (λ x y. eqb-false a b q x)) (λ j i. refl) (λ w x. x) (m .tiles a h));
     closed = m .closed;
   }
-    where
-      here : (a : ℕ) → a < 64 → a ≡ b → Tiled (wd′ a) (bit a) (Ok objects dis a) (λ o. handleOf o a (generation a)) (objects a) (used a)
-      here a h q = tiled-store (wd a) (wd′ a) (bit a) (Ok objects dis a) (λ o. handleOf o a (generation a)) p (rw q e) (rw q k) (objects a) (used a)
-          (λ j i ne. f a j h i (λ x y. ne y)) (m .tiles a h)
 
-  -- one word of area b is replaced, a data word of the object with handle h
+  -- at an offset where no object starts, by a word that a slot there may hold
+  pub mem-store : (b p : ℕ) (wd′ : ℕ → ℕ → ℕ) → bit b p ≡ false → Ok objects dis b (wd′ b p)
+      → ((a j : ℕ) → a < 64 → j < used a → (a ≡ b → j ≡ p → ⊥) → wd′ a j ≡ wd a j) → Mem dis cnt used generation wd′ bit objects
+  mem-store b p wd′ e k =
+      mem-word b p wd′ (λ l f. tiled-store (wd b) (wd′ b) (bit b) (Ok objects dis b) _ p e k (objects b) (used b) f (m .tiles b l))
+
+  -- a data word of the object with handle h
   pub mem-data : (b p h : ℕ) (wd′ : ℕ → ℕ → ℕ)
       → ((o : Object) → o .handle ≡ h → Header (wd b (place o)) o → (place o + o .slots < p) × (p ≤ place o + o .slots + o .dataWords))
       → 0 < occurrences h (handles (objects b))
       → ((a j : ℕ) → a < 64 → j < used a → (a ≡ b → j ≡ p → ⊥) → wd′ a j ≡ wd a j) → Mem dis cnt used generation wd′ bit objects
-  mem-data b p h wd′ d k f = record {
-    tiles = λ a l. cases (eqb a b)
-        (λ q. here a l (eqb-true a b q))
-        (λ q. tiled-frame (wd a) (wd′ a) (bit a) (bit a) (Ok objects dis a) (Ok objects dis a) (λ o. handleOf o a (generation a)) (objects a) (used a)
-        (λ j i. f a j l i (λ x y. eqb-false a b q x)) (λ j i. refl) (λ w x. x) (m .tiles a l));
-    closed = m .closed;
-  }
-    where
-      here : (a : ℕ) → a < 64 → a ≡ b → Tiled (wd′ a) (bit a) (Ok objects dis a) (λ o. handleOf o a (generation a)) (objects a) (used a)
-      here a l q = tiled-data (wd a) (wd′ a) (bit a) (Ok objects dis a) (λ o. handleOf o a (generation a)) p h (rw q d) (objects a) (used a)
-          (λ j i ne. f a j l i (λ x y. ne y)) (rw q k) (m .tiles a l)
+  mem-data b p h wd′ d k =
+      mem-word b p wd′ (λ l f. tiled-data (wd b) (wd′ b) (bit b) (Ok objects dis b) _ p h d (objects b) (used b) f k (m .tiles b l))
 
   -- an object is made on top of area b
   pub mem-alloc : (b : ℕ) (o : Object) (used′ : ℕ → ℕ) (wd′ : ℕ → ℕ → ℕ) (bit′ : ℕ → ℕ → Bool) → b < 64
