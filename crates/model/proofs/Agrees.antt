@@ -29,9 +29,10 @@ use Rattle.model.proofs.Sound.{Same}
 use Rattle.model.proofs.Parts.{thread-same, thread-other, stack-is, parts-of, number-kept}
 use Rattle.model.proofs.Stacks.{stack-none}
 use Rattle.model.proofs.Bounds.{by-area, current-area}
+use Rattle.model.proofs.Alters.{enter-stays, open-alters, fresh-alters, enter-others, by-left, exit-stays, exit-others}
 use Rattle.model.proofs.KeepsThreads.{kind-stacks, idle-empty}
-use Rattle.model.proofs.KeepsEnter.{enter-thread, enter-thread-other, enter-low-area, enter-area-other, enter-open-area, enter-fresh-area, enter-stacks}
-use Rattle.model.proofs.KeepsExit.{exit-thread, exit-thread-other, exit-low-area, exit-area-other, by-top, top-area, exit-more-area, exit-last-area, pop-is, exit-stacks}
+use Rattle.model.proofs.KeepsEnter.{enter-thread, enter-thread-other, enter-stacks}
+use Rattle.model.proofs.KeepsExit.{exit-thread, exit-thread-other, top-area, exit-more-area, exit-last-area, pop-is, exit-stacks}
 use Rattle.model.proofs.Keeps.{first-stacks, first-area}
 
 -- ---- set-up
@@ -78,7 +79,7 @@ module _ (s : State) (g : Good s) (b : History) (m : Same s b) (t : ℕ) (l : t 
 module _ (s : State) (t q : ℕ) (g : Good s) (ok : EnterOk s t q) (b : History) (e : Same s b) where
   enter-started : (u : ℕ) → isStarted (enterState s t q) u ≡ b .started u
   unfolding pushed
-  enter-started = started-same s g b e t (ok .called .thread) (enterState s t q) (ap (λ (h : Thread). h .kind) (enter-thread s t q g ok)) (enter-thread-other s t q)
+  enter-started = started-same s g b e t (ok .called .thread) (enterState s t q) (ap (λ (h : Thread). h .kind) (enter-thread s t q g ok)) (enter-thread-other s t q g ok)
 
   enter-rows : stacksIn (enterState s t q) ≡ set (b .rows) t (q ∷ threadRow b t)
   enter-rows = enter-stacks s t q g ok ∙ ap (λ (r : List (List ℕ)). set r t (q ∷ getD r t [])) (e .rows)
@@ -88,11 +89,11 @@ module _ (s : State) (t q : ℕ) (g : Good s) (ok : EnterOk s t q) (b : History)
   counted h = g .nesting .counts q h (ok .area) ∙ ap (total q) (e .rows)
 
   other-parents : (a : ℕ) → a ≢ q → parentIn (enterState s t q) a ≡ b .parents a
-  other-parents a ne = ap (λ (x : Area). x .parent) (enter-area-other s t q a ne) ∙ e .parents a
+  other-parents a ne = ap (λ (x : Area). x .parent) (enter-others s t q (g .areas) (ok .area) a ne .area) ∙ e .parents a
 
   same-low : q < 2 → Same (enterState s t q) (historyEnter b t q)
   unfolding historyEnter
-  same-low h = rw (lt-leb 2 q h) record { started = enter-started; rows = enter-rows; parents = λ a. ap (λ (x : Area). x .parent) (enter-low-area s t q a h) ∙ e .parents a }
+  same-low h = rw (lt-leb 2 q h) record { started = enter-started; rows = enter-rows; parents = λ a. ap (λ (x : Area). x .parent) (enter-stays s t q h .all a .area) ∙ e .parents a }
 
   same-open : 2 ≤ q → 0 < areaAt s q .count → Same (enterState s t q) (historyEnter b t q)
   unfolding historyEnter
@@ -100,7 +101,7 @@ module _ (s : State) (t q : ℕ) (g : Good s) (ok : EnterOk s t q) (b : History)
     started = enter-started;
     rows = enter-rows;
     parents = λ a. cases (eqb a q)
-        (λ d. rw (eqb-true a q d) (ap (λ (x : Area). x .parent) (enter-open-area s t q g (ok .area) h o) ∙ e .parents q))
+        (λ d. rw (eqb-true a q d) (ap (λ (x : Area). x .parent) (open-alters s t q (g .areas) (ok .area) h o .here) ∙ e .parents q))
         (λ d. other-parents a (eqb-false a q d));
   }
 
@@ -110,7 +111,7 @@ module _ (s : State) (t q : ℕ) (g : Good s) (ok : EnterOk s t q) (b : History)
     started = enter-started;
     rows = enter-rows;
     parents = λ a. cases (eqb a q)
-        (λ d. rw (eqb-true a q d, put-same) (ap (λ (x : Area). x .parent) (enter-fresh-area s t q g (ok .area) h z) ∙ inner))
+        (λ d. rw (eqb-true a q d, put-same) (ap (λ (x : Area). x .parent) (fresh-alters s t q (g .areas) (ok .area) h z .here) ∙ inner))
         (λ d. rw (put-other (b .parents) q (innermost (threadRow b t)) a (eqb-false a q d)) (other-parents a (eqb-false a q d)));
   }
     where
@@ -129,7 +130,7 @@ module _ (s : State) (t : ℕ) (g : Good s) (ok : ExitOk s t) (b : History) (e :
 
   exit-started : (u : ℕ) → isStarted (exitState s t) u ≡ b .started u
   unfolding popped
-  exit-started = started-same s g b e t (ok .called .thread) (exitState s t) (ap (λ (h : Thread). h .kind) (exit-thread s t g ok)) (exit-thread-other s t)
+  exit-started = started-same s g b e t (ok .called .thread) (exitState s t) (ap (λ (h : Thread). h .kind) (exit-thread s t g ok)) (exit-thread-other s t g ok)
 
   exit-rows : stacksIn (exitState s t) ≡ set (b .rows) t (entriesOf (popped (threadAt s t)))
   exit-rows = exit-stacks s t g ok ∙ ap (λ (r : List (List ℕ)). set r t (entriesOf (popped (threadAt s t)))) (e .rows)
@@ -146,12 +147,12 @@ module _ (s : State) (t : ℕ) (g : Good s) (ok : ExitOk s t) (b : History) (e :
   )
 
   left-parents : (a : ℕ) → a ≢ currentAt s t → parentIn (exitState s t) a ≡ b .parents a
-  left-parents a ne = ap (λ (x : Area). x .parent) (exit-area-other s t a ne) ∙ e .parents a
+  left-parents a ne = ap (λ (x : Area). x .parent) (exit-others s t (g .areas) (top-area s t g ok) a ne .area) ∙ e .parents a
 
   exit-same-low : currentAt s t < 2 → Same (exitState s t) (historyExit b t)
   unfolding historyExit
   exit-same-low h = rw (row-top, lt-leb 2 (currentAt s t) h)
-      record { started = exit-started; rows = exit-rows; parents = λ a. ap (λ (x : Area). x .parent) (exit-low-area s t a h) ∙ e .parents a }
+      record { started = exit-started; rows = exit-rows; parents = λ a. ap (λ (x : Area). x .parent) (exit-stays s t h .all a .area) ∙ e .parents a }
 
   exit-same-last : 2 ≤ currentAt s t → areaAt s (currentAt s t) .count ≤ 1 → Same (exitState s t) (historyExit b t)
   unfolding historyExit
@@ -174,12 +175,7 @@ module _ (s : State) (t : ℕ) (g : Good s) (ok : ExitOk s t) (b : History) (e :
   }
 
   pub same-exit : Same (exitState s t) (historyExit b t)
-  same-exit =
-      by-top s t
-      exit-same-low
-      (λ h. cases (leb (areaAt s (currentAt s t) .count) 1)
-      (λ o. exit-same-last h (leb-true (areaAt s (currentAt s t) .count) 1 o))
-      (λ o. exit-same-more h (leb-false (areaAt s (currentAt s t) .count) 1 o)))
+  same-exit = by-left s t exit-same-low exit-same-last exit-same-more
 
 -- ---- words are given
 

@@ -201,7 +201,7 @@ module _ (s : State) (m : Memory) (b : History) (o : Sound s m b) (c slots dataW
 
   display-is : (a : ℕ) → displayAt n a ≡ displayAt s a
   unfolding displayAt
-  display-is a = rw (allocate-rows s (o .good .areas) c hc slots dataWords a, same-field to (λ (x : Area). x .depth) refl a)
+  display-is a = rw (allocate-rows s c slots dataWords a, same-field to (λ (x : Area). x .depth) refl a)
 
   fits-then : fits n k ≡ true
   unfolding fits allocateMemory
