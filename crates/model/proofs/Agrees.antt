@@ -118,7 +118,7 @@ module _ (s : State) (t q : ℕ) (g : Good s) (ok : EnterOk s t q) (b : History)
       inner : innermost (stackAt s t) ≡ innermost (threadRow b t)
       inner = ap innermost (sym (stack-is s t) ∙ ap (λ (r : List (List ℕ)). getD r t []) (e .rows))
 
-  pub same-enter : Same (enterState s t q) (historyEnter b t q)
+  same-enter : Same (enterState s t q) (historyEnter b t q)
   same-enter = by-area s q same-low same-fresh same-open
 
 -- ---- exit
@@ -174,12 +174,12 @@ module _ (s : State) (t : ℕ) (g : Good s) (ok : ExitOk s t) (b : History) (e :
         (λ d. left-parents a (eqb-false a (currentAt s t) d));
   }
 
-  pub same-exit : Same (exitState s t) (historyExit b t)
+  same-exit : Same (exitState s t) (historyExit b t)
   same-exit = by-left s t exit-same-low exit-same-last exit-same-more
 
 -- ---- words are given
 
-pub same-make : (s : State) (t q r : ℕ) → Good s → MakeOk s t q r → (b : History) → Same s b → Same (makeState s q r) b
+same-make : (s : State) (t q r : ℕ) → Good s → MakeOk s t q r → (b : History) → Same s b → Same (makeState s q r) b
 unfolding makeState withTaken withArea
 same-make s t q r g ok b e = record {
   started = e .started;
@@ -187,7 +187,7 @@ same-make s t q r g ok b e = record {
   parents = λ a. number-kept s (parts-of s g) q (madeArea (areaAt s q) (s .taken) r) (ok .area) (λ (x : Area). x .parent) refl a ∙ e .parents a;
 }
 
-pub same-allocate : (s : State) (t slots dataWords : ℕ) → Good s → AllocateOk s t slots dataWords → (b : History) (o : Object) → Same s b
+same-allocate : (s : State) (t slots dataWords : ℕ) → Good s → AllocateOk s t slots dataWords → (b : History) (o : Object) → Same s b
     → Same (allocateState s (currentAt s t) slots dataWords) (historyAllocate b t o)
 unfolding allocateState withArea historyAllocate
 same-allocate s t slots dataWords g ok b o e = record {

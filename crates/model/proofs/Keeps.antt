@@ -46,7 +46,7 @@ module _ (h i : ℕ) (n : Lengths) where
     pub scratch : n .scratch ≤ 16384
     pub map : n .map ≡ (n .permanent + n .scratch + 63) / 64
 
-  pub set-up-ok : setUpStatus h i n ≡ 0 → SetUpOk
+  set-up-ok : setUpStatus h i n ≡ 0 → SetUpOk
   unfolding setUpStatus
   set-up-ok e =
       let a = peel (not (eqb (h + i) (n .permanent))) 0 _ e in

@@ -42,7 +42,7 @@ module _ (s : State) (t : ℕ) (g : Good s) (ok : ExitOk s t) where
   pub top-area : currentAt s t < 64
   top-area = current-area s g t (ok .called .thread)
 
-  pub top-open : 2 ≤ currentAt s t → 0 < areaAt s (currentAt s t) .count
+  top-open : 2 ≤ currentAt s t → 0 < areaAt s (currentAt s t) .count
   top-open = current-open s g t (ok .called .thread)
 
   exit-scope-area : 2 ≤ currentAt s t → areaAt (exitState s t) (currentAt s t) ≡ left (areaAt s (currentAt s t))

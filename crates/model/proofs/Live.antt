@@ -17,7 +17,7 @@ use Rattle.model.specs.History.{Object, History, occurrences, handles}
 use Rattle.model.specs.Claims.{In}
 use Rattle.model.specs.Invariant.{countIn}
 use Rattle.model.proofs.Lists.{occ-nil}
-use Rattle.model.proofs.Tiles.{place, Header, Tile, tiled-at, tiled-has}
+use Rattle.model.proofs.Tiles.{place, IsHeader, Tile, tiled-at, tiled-has}
 use Rattle.model.proofs.Memory.{Ok}
 use Rattle.model.proofs.Sound.{usedIn, generationIn, bitIn, Dead, Sound}
 use Rattle.model.proofs.PlacedWords.{room}
@@ -55,7 +55,7 @@ module _ (s : State) (m : Memory) (b : History) (o : Sound s m b) where
 
     module _ (p : 0 < occurrences h (handles (b .objects (areaOf h)))) where
       -- the area of an object that is not gone is open
-      pub given-open : (ltb (areaOf h) 2 || isOpen s (areaOf h)) ≡ true
+      given-open : (ltb (areaOf h) 2 || isOpen s (areaOf h)) ≡ true
       given-open = cases (ltb (areaOf h) 2)
           (λ e. rw e)
           (λ e. rw e (cases (isOpen s (areaOf h))
@@ -77,7 +77,7 @@ module _ (s : State) (m : Memory) (b : History) (o : Sound s m b) where
       given-ends = omega (arith, given-place, given-tile .3 .ends, given-tile .4)
 
       -- what the header of an object that is not gone says
-      pub given-head : Header (headerAt s m h) (given-tile .0)
+      pub given-head : IsHeader (headerAt s m h) (given-tile .0)
       given-head = rw (← given-place) (given-tile .3 .head)
 
       pub given-live : live s m h ≡ true

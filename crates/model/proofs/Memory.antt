@@ -12,7 +12,7 @@ use Rattle.layout.specs.Choice.{cases}
 use Rattle.layout.specs.Handle.{handleOf, areaOf}
 use Rattle.model.specs.History.{Object, occurrences, handles, putAt}
 use Rattle.model.proofs.Lists.{occ-more}
-use Rattle.model.proofs.Tiles.{place, Header, Tile, Tiled, tiled-frame, tiled-store, tiled-data, tiled-push}
+use Rattle.model.proofs.Tiles.{place, IsHeader, Tile, Tiled, tiled-frame, tiled-store, tiled-data, tiled-push}
 
 -- an object of area a may refer to area c
 abbrev pub Reach : (ℕ → List ℕ) → ℕ → ℕ → Type 0
@@ -31,7 +31,7 @@ pub record Mem (dis : ℕ → List ℕ) (cnt used generation : ℕ → ℕ) (wd 
   pub tiles : (a : ℕ) → a < 64 → Tiled (wd a) (bit a) (Ok objects dis a) (λ o. handleOf o a (generation a)) (objects a) (used a)
   pub closed : (a : ℕ) → 2 ≤ a → a < 64 → cnt a ≡ 0 → objects a ≡ []
 
-pub ok-frame : (objects objects′ : ℕ → List Object) (dis dis′ : ℕ → List ℕ) (a : ℕ)
+ok-frame : (objects objects′ : ℕ → List Object) (dis dis′ : ℕ → List ℕ) (a : ℕ)
     → ((w : ℕ) → Named objects dis a w → Named objects′ dis′ a w) → (w : ℕ) → Ok objects dis a w → Ok objects′ dis′ a w
 ok-frame objects objects′ dis dis′ a f w = ⊎-elim (λ e. inl e) (λ n. inr (f w n))
 
@@ -109,7 +109,7 @@ module _ {dis : ℕ → List ℕ} {cnt used generation : ℕ → ℕ} {wd : ℕ 
 
   -- a data word of the object with handle h
   pub mem-data : (b p h : ℕ) (wd′ : ℕ → ℕ → ℕ)
-      → ((o : Object) → o .handle ≡ h → Header (wd b (place o)) o → (place o + o .slots < p) × (p ≤ place o + o .slots + o .dataWords))
+      → ((o : Object) → o .handle ≡ h → IsHeader (wd b (place o)) o → (place o + o .slots < p) × (p ≤ place o + o .slots + o .dataWords))
       → 0 < occurrences h (handles (objects b))
       → ((a j : ℕ) → a < 64 → j < used a → (a ≡ b → j ≡ p → ⊥) → wd′ a j ≡ wd a j) → Mem dis cnt used generation wd′ bit objects
   mem-data b p h wd′ d k =

@@ -23,7 +23,7 @@ use Rattle.model.specs.Objects.{currentAt, grown, filled, objectWords, o
 use Rattle.model.specs.History.{Object, History, putAt, historyAllocate}
 use Rattle.model.specs.Invariant.{countIn, Good}
 use Rattle.model.proofs.Accepted.{AllocateOk}
-use Rattle.model.proofs.Tiles.{place, Header, Tile}
+use Rattle.model.proofs.Tiles.{place, IsHeader, Tile}
 use Rattle.model.proofs.Memory.{mem-cong, mem-alloc, put-other}
 use Rattle.model.proofs.Sound.{Same, usedIn, generationIn, bitIn, Sound}
 use Rattle.model.proofs.PlacedWords.{size-room, used-in, one-word, one-place, word-in, bit-in, replaced, read-same, store-fits, fits-also}
@@ -54,7 +54,7 @@ filled-in l p (suc n) v k h c = cases (eqb k n)
 
 -- ---- the words of an object at a place of a store
 
-header-made : (slots dataWords : ℕ) → slots + dataWords < 16384 → {h : ℕ} → Header (headerOf slots dataWords) (record { handle = h; slots = slots; dataWords = dataWords })
+header-made : (slots dataWords : ℕ) → slots + dataWords < 16384 → {h : ℕ} → IsHeader (headerOf slots dataWords) (record { handle = h; slots = slots; dataWords = dataWords })
 header-made slots dataWords small = record {
   slots = slots-packed slots dataWords (omega arith);
   dataWords = data-packed slots dataWords (omega arith) (omega arith);

@@ -22,7 +22,7 @@ use Rattle.model.specs.Data.{dataIndex}
 use Rattle.model.specs.History.{Object, History, occurrences, handles}
 use Rattle.model.specs.Invariant.{parentIn, countIn}
 use Rattle.model.proofs.Walks.{occ-down}
-use Rattle.model.proofs.Tiles.{place, Header}
+use Rattle.model.proofs.Tiles.{place, IsHeader}
 use Rattle.model.proofs.Memory.{Reach, Ok, Mem, mem-store, mem-data}
 use Rattle.model.proofs.Sound.{usedIn, generationIn, bitIn, Sound}
 use Rattle.model.proofs.PlacedWords.{used-in, one-place, word-in, replaced, read-same, store-fits}
@@ -88,8 +88,8 @@ module _ (s : State) (m : Memory) (b : History) (o : Sound s m b) (p : ℕ) (lv 
         let t = given-tile s m b o p given in
         t .3 .off (suc (offsetOf p + i)) (omega (arith, given-place s m b o p given)) (omega (arith, t .3 .ends, given-head s m b o p given .slots, given-place s m b o p given))
 
-    pub slot-ok : Ok (b .objects) (displayAt s) (areaOf p) (wordAfter s m p i)
-    slot-ok = rw (← given-place s m b o p given) (given-tile s m b o p given .3 .refs i (omega (arith, given-head s m b o p given .slots)))
+    pub slot-word : Ok (b .objects) (displayAt s) (areaOf p) (wordAfter s m p i)
+    slot-word = rw (← given-place s m b o p given) (given-tile s m b o p given .3 .refs i (omega (arith, given-head s m b o p given .slots)))
 
     pub sound-store : (r : ℕ) → isReference s m r ≡ true → eqb r null || mayRefer s (areaOf p) (areaOf r) ≡ true → Sound s (storeAfter s m p i r) b
     unfolding storeAfter
@@ -116,9 +116,9 @@ module _ (s : State) (m : Memory) (b : History) (o : Sound s m b) (p : ℕ) (lv 
         (put-other-word s m b o (areaOf p) (suc (offsetOf p + dataIndex s m p i)) r (area-lt p) data-in))
       where
         -- it lies among the data words of every object with that handle
-        among : (x : Object) → x .handle ≡ p → Header (wordAt s m (areaOf p) (place x)) x
+        among : (x : Object) → x .handle ≡ p → IsHeader (wordAt s m (areaOf p) (place x)) x
             → (place x + x .slots < suc (offsetOf p + dataIndex s m p i)) × (suc (offsetOf p + dataIndex s m p i) ≤ place x + x .slots + x .dataWords)
         among x e hd =
             let at : place x ≡ offsetOf p = ap offsetOf e in
-            let is : Header (headerAt s m p) x = rw at at hd in
+            let is : IsHeader (headerAt s m p) x = rw at at hd in
             omega (arith, is .slots, is .dataWords)

@@ -37,7 +37,7 @@ module _ (s : State) (b : History) (g : Good s) (e : Same s b) where
       (λ d. rw (List·getD-eq-default (b .rows) [] {n = t} (omega (arith, ltb-false t 16 d, history-nesting .size))) tt)
 
   -- an open scope, with the branch below it on some row
-  pub open-at : (a : ℕ) → Open b a → (k : List ℕ) × Chain (b .parents) (displayAt s) (a ∷ k)
+  open-at : (a : ℕ) → Open b a → (k : List ℕ) × Chain (b .parents) (displayAt s) (a ∷ k)
   open-at a o =
       let z : StandsOn (b .parents) (displayAt s) (b .rows) a = stands-on history-nesting a (o .0) (o .1) in
       (z .branch, z .chain)

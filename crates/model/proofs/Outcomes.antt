@@ -65,7 +65,7 @@ abbrev pub lineFor : State → Memory → Call → Line
 lineFor s m c = record { call = c; reply = outcomeOf s m c .reply }
 
 -- lent a memory of the right lengths
-pub transition : (s : State) (m : Memory) (c : Call) → Transition s m (lineFor s m c) (outcomeOf s m c .state) (outcomeOf s m c .memory)
+transition : (s : State) (m : Memory) (c : Call) → Transition s m (lineFor s m c) (outcomeOf s m c .state) (outcomeOf s m c .memory)
 unfolding outcomeOf
 transition s m c = cases (eqb (callStatus s m c) 0)
     (λ e. rw e (inl record { passed = eqb-true (callStatus s m c) 0 e; state = refl; memory = refl; status = refl; value = refl }))

@@ -105,7 +105,7 @@ pub record SamePlace (x y : Area) : Type 0 where
   pub used : y .used ≤ y .size
 
 -- areas that lie where they lay
-pub placed-same : (s r : State) → Placed s → r .lengths ≡ s .lengths → r .taken ≡ s .taken → ((a : ℕ) → a < 64 → SamePlace (areaAt s a) (areaAt r a)) → Placed r
+placed-same : (s r : State) → Placed s → r .lengths ≡ s .lengths → r .taken ≡ s .taken → ((a : ℕ) → a < 64 → SamePlace (areaAt s a) (areaAt r a)) → Placed r
 placed-same s r p l n f =
     let e0 : r .lengths .permanent ≡ s .lengths .permanent = ap (λ (x : Lengths). x .permanent) l in
     let e1 : r .lengths .scratch ≡ s .lengths .scratch = ap (λ (x : Lengths). x .scratch) l in

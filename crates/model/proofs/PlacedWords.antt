@@ -29,7 +29,7 @@ module _ (s : State) (g : Placed s) where
       (λ e. rw e (low-inside a (leb-false 2 a e)))
 
   -- so an offset has 14 bits
-  pub store-room : (a : ℕ) → storeLength s a ≤ 16384
+  store-room : (a : ℕ) → storeLength s a ≤ 16384
   store-room a = cases (leb 2 a) (λ e. rw e (g .scratch)) (λ e. rw e (g .permanent))
 
   pub size-room : (a : ℕ) → a < 64 → areaAt s a .size ≤ 16384

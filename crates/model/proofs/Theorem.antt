@@ -80,7 +80,7 @@ module _ (w : World) (e : Element) (o : Told w) where
       (λ k. made k)
       (born (historyOf (w .trace)) (line w e) a x (unfold historyFrom in (rw trace-is at i))))
 
-  pub step-told : Told (step w e)
+  step-told : Told (step w e)
   step-told = record {
     holds = now;
     since = step-since;
@@ -130,7 +130,7 @@ module _ (w : World) (o : Told w) where
       dead-not (run w rest .state) (run w rest .memory) (historyOf (run w rest .trace)) z x
       (z .dead x (among-some (gone-run w rest x i)))
 
-  pub claimed : Claims w (historyOf (w .trace))
+  claimed : Claims w (historyOf (w .trace))
   claimed = record {
     started = started (w .state) b (sound .good) (sound .same);
     stacks = stacks (w .state) b (sound .good) (sound .same);

@@ -25,7 +25,7 @@ abbrev pub topOf : ℕ → ℕ
 topOf w = w / 268435456
 
 -- what a header says of its object: "s in bits 0 to 13, d in bits 14 to 27, the rest 0"
-pub record Header (w : ℕ) (o : Object) : Type 0 where
+pub record IsHeader (w : ℕ) (o : Object) : Type 0 where
   pub slots : slotsOf w ≡ o .slots
   pub dataWords : dataOf w ≡ o .dataWords
   pub top : topOf w ≡ 0
@@ -34,7 +34,7 @@ pub record Header (w : ℕ) (o : Object) : Type 0 where
 pub record Tile (wd : ℕ → ℕ) (bit : ℕ → Bool) (ok : ℕ → Type 0) (mk : ℕ → ℕ) (o : Object) (n : ℕ) : Type 0 where
   pub made : o .handle ≡ mk (place o)
   pub ends : suc (place o + o .slots + o .dataWords) ≡ n
-  pub head : Header (wd (place o)) o
+  pub head : IsHeader (wd (place o)) o
   pub on : bit (place o) ≡ true
   pub off : (j : ℕ) → place o < j → j < n → bit j ≡ false
   pub refs : (j : ℕ) → j < o .slots → ok (wd (suc (place o + j)))
@@ -120,7 +120,7 @@ tiled-has wd bit ok mk os n h z p =
 
 -- a word at p is replaced, which is a data word of the object with handle h
 pub tiled-data : (wd wd′ : ℕ → ℕ) (bit : ℕ → Bool) (ok : ℕ → Type 0) (mk : ℕ → ℕ) (p h : ℕ)
-    → ((o : Object) → o .handle ≡ h → Header (wd (place o)) o → (place o + o .slots < p) × (p ≤ place o + o .slots + o .dataWords))
+    → ((o : Object) → o .handle ≡ h → IsHeader (wd (place o)) o → (place o + o .slots < p) × (p ≤ place o + o .slots + o .dataWords))
     → (os : List Object) (n : ℕ) → ((j : ℕ) → j < n → j ≢ p → wd′ j ≡ wd j) → 0 < occurrences h (handles os) → Tiled wd bit ok mk os n → Tiled wd′ bit ok mk os n
 tiled-data wd wd′ bit ok mk p h d [] n f q z = z
 tiled-data wd wd′ bit ok mk p h d (o ∷ os) n f q z =
