@@ -12,7 +12,7 @@ use Rattle.layout.specs.Header.{slotsOf, dataOf}
 use Rattle.model.specs.State.{State, Memory, areaAt, threadAt, stackAt, innermost, isMade, isOpen}
 use Rattle.model.specs.Checks.{fits, fitted, called, admit, headerAt, live, isObject, isReference, useRest}
 use Rattle.model.specs.Threads.{isKind, startRest, endRest}
-use Rattle.model.specs.Scopes.{makeRest, lastGeneration, otherParent, exhausted, enterRest, exitRest}
+use Rattle.model.specs.Scopes.{makeRest, lastGeneration, otherParent, atLastGeneration, enterRest, exitRest}
 use Rattle.model.specs.Objects.{currentAt, allocateRest}
 use Rattle.model.specs.References.{mayRefer, slotRest, referenceRest, storeRest}
 use Rattle.model.specs.Data.{dataRest}
@@ -112,7 +112,7 @@ module _ (s : State) (t : ℕ) where
     pub generation : 2 ≤ q → areaAt s q .count ≡ 0 → areaAt s q .generation < lastGeneration
 
   pub enter-ok : (q : ℕ) → enterRest s t q ≡ 0 → EnterOk q
-  unfolding enterRest otherParent exhausted
+  unfolding enterRest otherParent atLastGeneration
   enter-ok q e =
       let a = called-ok _ e in
       let b = peel _ _ _ (a .1) in
@@ -148,13 +148,13 @@ module _ (s : State) (t : ℕ) where
       record { called = a .0; some = omega (arith, eqb-false) }
 
   -- op 06
-  pub record AllocateOk (slots words : ℕ) : Type 0 where
+  pub record AllocateOk (slots dataWords : ℕ) : Type 0 where
     pub called : Called
-    pub room : suc (areaAt s (currentAt s t) .used + slots + words) ≤ areaAt s (currentAt s t) .size
+    pub room : suc (areaAt s (currentAt s t) .used + slots + dataWords) ≤ areaAt s (currentAt s t) .size
 
-  pub allocate-ok : (slots words : ℕ) → allocateRest s t slots words ≡ 0 → AllocateOk slots words
+  pub allocate-ok : (slots dataWords : ℕ) → allocateRest s t slots dataWords ≡ 0 → AllocateOk slots dataWords
   unfolding allocateRest
-  allocate-ok slots words e =
+  allocate-ok slots dataWords e =
       let a = called-ok _ e in
       let b = peel _ _ _ (a .1) in
       let c = peel _ _ _ (b .1) in

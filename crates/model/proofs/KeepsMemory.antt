@@ -1,4 +1,4 @@
--- Every accepted call keeps state, memory and book sound, and set-up gives a sound beginning: given that the state and the book stay good.
+-- Every accepted call keeps state, memory and history sound, and set-up gives a sound beginning: given that the state and the history stay good.
 -- Assumes nothing.
 use Prim.Native.Nat.{ℕ, zero, suc}
 use mathlib.Core.Bool.{true}
@@ -11,7 +11,7 @@ use Rattle.layout.specs.Choice.{cases}
 use Rattle.model.specs.State.{State, Memory, noArea}
 use Rattle.model.specs.SetUp.{lengthsOf, setUpStatus, firstState}
 use Rattle.model.specs.Checks.{fits}
-use Rattle.model.specs.Calls.{Call, start, end, make, enter, exit, allocate, store, load, write, read, view, viewed, callStatus, callValue, callState, callMemory}
+use Rattle.model.specs.Calls.{Call, start, end, make, enter, exit, allocate, store, write, asks, callStatus, callValue, callState, callMemory}
 use Rattle.model.specs.History.{History, blank, historyStep}
 use Rattle.model.specs.Invariant.{Good}
 use Rattle.model.proofs.Accepted.{fitted-ok, admitted, make-ok, enter-ok, exit-ok, allocate-ok, StoreOk, store-ok, DataOk, data-ok}
@@ -32,13 +32,10 @@ sound-call s m b (allocate t q r) o e g i = sound-allocate s m b o t q r (alloca
 sound-call s m b (store t p q r) o e g i =
     let k : StoreOk s m t p q r = store-ok s m t p q r (admitted s m t _ e .1) in
     sound-store s m b o p (k .at .used .object) q (k .at .slot) r (k .target) (k .rule)
-sound-call s m b (load t p q) o e g i = o
 sound-call s m b (write t p q r) o e g i =
     let k : DataOk s m t p q = data-ok s m t p q (admitted s m t _ e .1) in
     sound-write s m b o p (k .used .object) q (k .index) r
-sound-call s m b (read t p q) o e g i = o
-sound-call s m b (view t p) o e g i = o
-sound-call s m b (viewed t p) o e g i = o
+sound-call s m b (asks x) o e g i = o
 
 -- ---- set-up
 

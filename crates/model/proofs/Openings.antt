@@ -11,11 +11,11 @@ use borrow.Author.Tests.{eqb-true, eqb-false, eq-eqb, ne-eqb, le-leb, lt-leb, lt
 use Rattle.layout.specs.Choice.{pick, cases}
 use Rattle.model.specs.declared.Area.{Area}
 use Rattle.model.specs.declared.Lengths.{Lengths}
-use Rattle.model.specs.State.{State, Memory, areaAt, threadAt, stackOf}
+use Rattle.model.specs.State.{State, Memory, areaAt, threadAt, entriesOf}
 use Rattle.model.specs.SetUp.{firstState}
 use Rattle.model.specs.Scopes.{enterState, enterValue, popped, exitState, exitValue}
 use Rattle.model.specs.Objects.{currentAt}
-use Rattle.model.specs.Calls.{Call, start, end, make, enter, exit, allocate, store, load, write, read, view, viewed, callStatus, callValue, callState}
+use Rattle.model.specs.Calls.{Call, start, end, make, enter, exit, allocate, store, write, asks, callStatus, callValue, callState}
 use Rattle.model.specs.Run.{Line}
 use Rattle.model.specs.History.{History, total, historyExit, historyOf}
 use Rattle.model.specs.Values.{openingStep, lastOpening, entryGeneration, entriesLeft}
@@ -23,11 +23,9 @@ use Rattle.model.proofs.Accepted.{fitted-ok, MakeOk, make-ok, EnterOk, 
 use Rattle.model.proofs.Sound.{generationIn, Sound}
 use Rattle.model.proofs.Bounds.{by-area, current-area}
 use Rattle.model.proofs.Keeps.{first-scope}
-use Rattle.model.proofs.KeepsEnter.{freshArea}
-use Rattle.model.proofs.KeepsExit.{by-top}
 use Rattle.model.proofs.Agrees.{row-top, left-count}
 use Rattle.model.proofs.NestingClaims.{history-nesting}
-use Rattle.model.proofs.Alters.{Stays, Alters, start-stays, end-stays, enter-low, exit-low, make-alters, open-alters, fresh-alters, left-alters, allocate-alters}
+use Rattle.model.proofs.Alters.{Stays, Alters, start-stays, end-stays, make-alters, allocate-alters, freshArea, enter-stays, open-alters, fresh-alters, by-top, exit-stays, left-alters}
 use Rattle.model.proofs.Outcomes.{Transition}
 use Rattle.model.proofs.ValueMeanings.{opening-accepted, opening-refused}
 
@@ -50,7 +48,7 @@ carried-all {q = q} e k a = cases (eqb a q)
     (λ d. carried-same (e .others a (eqb-false a q d) .area))
 
 module _ (s : State) (m : Memory) (b : History) (o : Sound s m b) where
-  -- a scope is open where the book has it on a row
+  -- a scope is open where the history has it on a row
   count-is : (a : ℕ) → 2 ≤ a → a < 64 → areaAt s a .count ≡ total a (b .rows)
   count-is = history-nesting s b (o .good) (o .same) .counts
 
@@ -74,22 +72,22 @@ module _ (s : State) (m : Memory) (b : History) (o : Sound s m b) where
   carried-enter : (t q : ℕ) → EnterOk s t q → (a : ℕ)
       → Carried (areaAt s a) (areaAt (enterState s t q) a) (openingStep b a (generationIn s a) (enter t q) (enterValue s q))
   carried-enter t q k a = by-area s q
-      (λ h. rw (lt-leb 2 q h) (carried-stays (enterState s t q) (enter-low s t q h) a))
+      (λ h. rw (lt-leb 2 q h) (carried-stays (enterState s t q) (enter-stays s t q h) a))
       (λ h c. rw (le-leb 2 q h, eq-eqb (total q (b .rows)) 0 (omega (arith, count-is q h (k .area)))) (fresh h c))
       (λ h c. rw (le-leb 2 q h, ne-eqb (total q (b .rows)) 0 (λ z. omega (arith, count-is q h (k .area))))
-      (carried-all (open-alters s (o .good .areas) q (k .area) t h c) record { start = λ p. refl; generation = refl } a))
+      (carried-all (open-alters s t q (o .good .areas) (k .area) h c) record { start = λ p. refl; generation = refl } a))
     where
       fresh : 2 ≤ q → areaAt s q .count ≡ 0 → Carried (areaAt s a) (areaAt (enterState s t q) a) (pick (eqb q a) (enterValue s q) (generationIn s a))
       fresh h c =
-          let to : Alters s (enterState s t q) q (freshArea s t q) = fresh-alters s (o .good .areas) q (k .area) t h c in
+          let to : Alters s (enterState s t q) q (freshArea s t q) = fresh-alters s t q (o .good .areas) (k .area) h c in
           cases (eqb q a)
           (λ d. rw (d, ← eqb-true q a d, to .here) record { start = λ p. refl; generation = sym (enter-fresh-value q h c) })
           (λ d. rw d (carried-same (to .others a (λ e. eqb-false q a d (sym e)) .area)))
 
   carried-exit : (t : ℕ) → ExitOk s t → (a : ℕ) → Carried (areaAt s a) (areaAt (exitState s t) a) (generationIn s a)
   carried-exit t k a = by-top s t
-      (λ h. carried-stays (exitState s t) (exit-low s t h) a)
-      (λ h. carried-all (left-alters s (o .good .areas) t h (current-area s (o .good) t (k .called .thread)))
+      (λ h. carried-stays (exitState s t) (exit-stays s t h) a)
+      (λ h. carried-all (left-alters s t (o .good .areas) (current-area s (o .good) t (k .called .thread)) h)
       record { start = λ p. refl; generation = refl } a)
 
   -- any accepted call
@@ -108,11 +106,8 @@ module _ (s : State) (m : Memory) (b : History) (o : Sound s m b) where
       carried-all (allocate-alters s (o .good .areas) (currentAt s t) (current-area s (o .good) t (k .called .thread)) q r)
       record { start = λ p. refl; generation = refl } a
   carried-call (store t p q r) z a = carried-same refl
-  carried-call (load t p q) z a = carried-same refl
   carried-call (write t p q r) z a = carried-same refl
-  carried-call (read t p q) z a = carried-same refl
-  carried-call (view t p) z a = carried-same refl
-  carried-call (viewed t p) z a = carried-same refl
+  carried-call (asks x) z a = carried-same refl
 
 -- ---- generations and openings
 
@@ -155,5 +150,5 @@ exit-value s m b o t z =
     (λ h. rw (le-leb 2 (currentAt s t) h) (left h k)))
   where
     left : 2 ≤ currentAt s t → ExitOk s t
-        → pred (areaAt s (currentAt s t) .count) ≡ total (currentAt s t) (set (b .rows) t (stackOf (popped (threadAt s t))))
+        → pred (areaAt s (currentAt s t) .count) ≡ total (currentAt s t) (set (b .rows) t (entriesOf (popped (threadAt s t))))
     left h k = omega (arith, left-count s t (o .good) k b (o .same) h)

@@ -10,7 +10,7 @@ use borrow.Author.Tests.{eqb-true, eqb-false, eq-eqb, ne-eqb}
 use Rattle.layout.specs.Choice.{pick, cases, hit, skip}
 use Rattle.model.specs.State.{State, Memory}
 use Rattle.model.specs.Checks.{fits, fitted}
-use Rattle.model.specs.Calls.{Call, start, end, make, enter, exit, allocate, store, load, write, read, view, viewed, callStatus, callValue, callState, callMemory, outcomeOf}
+use Rattle.model.specs.Calls.{Call, start, end, make, enter, exit, allocate, store, write, Question, loads, reads, views, viewsStatus, asks, view, callStatus, callValue, callState, callMemory, outcomeOf}
 use Rattle.model.specs.Run.{Line}
 use Rattle.model.specs.History.{History, historyStep, historyLine}
 use Rattle.model.proofs.Sound.{Sound}
@@ -61,11 +61,11 @@ module _ {s : State} {m : Memory} {l : Line} {n : State} {k : Memory} where
 -- ---- one call
 
 -- the line that a call leaves
-abbrev pub lineOf : State → Memory → Call → Line
-lineOf s m c = record { call = c; reply = outcomeOf s m c .reply }
+abbrev pub lineFor : State → Memory → Call → Line
+lineFor s m c = record { call = c; reply = outcomeOf s m c .reply }
 
 -- lent a memory of the right lengths
-pub transition : (s : State) (m : Memory) (c : Call) → Transition s m (lineOf s m c) (outcomeOf s m c .state) (outcomeOf s m c .memory)
+transition : (s : State) (m : Memory) (c : Call) → Transition s m (lineFor s m c) (outcomeOf s m c .state) (outcomeOf s m c .memory)
 unfolding outcomeOf
 transition s m c = cases (eqb (callStatus s m c) 0)
     (λ e. rw e (inl record { passed = eqb-true (callStatus s m c) 0 e; state = refl; memory = refl; status = refl; value = refl }))
@@ -86,6 +86,12 @@ module _ (s : State) (n : Memory) (u : fits s n ≡ false) where
   unfolding fitted
   unfit-fitted rest = hit (not (fits s n)) 1 _ (ap not u)
 
+  unfit-question : (x : Question) → (callStatus s n (asks x) ≡ 1) ⊎ IsView (asks x)
+  unfit-question (loads t p q) = inl (unfit-fitted _)
+  unfit-question (reads t p q) = inl (unfit-fitted _)
+  unfit-question (views t p) = inr (is-view t p)
+  unfit-question (viewsStatus t p) = inl (unfit-fitted _)
+
   -- "1: lengths are not those of set-up", before every other refusal
   unfit-status : (c : Call) → (callStatus s n c ≡ 1) ⊎ IsView c
   unfit-status (start t p) = inl (unfit-fitted _)
@@ -95,11 +101,8 @@ module _ (s : State) (n : Memory) (u : fits s n ≡ false) where
   unfit-status (exit t) = inl (unfit-fitted _)
   unfit-status (allocate t q r) = inl (unfit-fitted _)
   unfit-status (store t p q r) = inl (unfit-fitted _)
-  unfit-status (load t p q) = inl (unfit-fitted _)
   unfit-status (write t p q r) = inl (unfit-fitted _)
-  unfit-status (read t p q) = inl (unfit-fitted _)
-  unfit-status (view t p) = inr (is-view t p)
-  unfit-status (viewed t p) = inl (unfit-fitted _)
+  unfit-status (asks x) = unfit-question x
 
   -- what it is lent is left as it was
   pub unfit-memory : (c : Call) → outcomeOf s n c .memory ≡ n
@@ -112,18 +115,18 @@ module _ (s : State) (n : Memory) (u : fits s n ≡ false) where
       by-view (is-view t p) = unfold outcomeOf in refl
 
   -- and so is what is kept
-  pub unfit : (m : Memory) (c : Call) → Transition s m (lineOf s n c) (outcomeOf s n c .state) m
+  pub unfit : (m : Memory) (c : Call) → Transition s m (lineFor s n c) (outcomeOf s n c .state) m
   unfit m c = ⊎-elim by-1 by-view (unfit-status c)
     where
-      by-1 : callStatus s n c ≡ 1 → Transition s m (lineOf s n c) (outcomeOf s n c .state) m
+      by-1 : callStatus s n c ≡ 1 → Transition s m (lineFor s n c) (outcomeOf s n c .state) m
       by-1 e = unfold outcomeOf in rw e (inr record { state = refl; memory = refl; status = λ z. omega arith; number = inr refl })
 
-      by-view : {d : Call} → IsView d → Transition s m (lineOf s n d) (outcomeOf s n d .state) m
+      by-view : {d : Call} → IsView d → Transition s m (lineFor s n d) (outcomeOf s n d .state) m
       by-view (is-view t p) = unfold outcomeOf in inl record { passed = refl; state = refl; memory = refl; status = refl; value = refl }
 
 -- lent the kept memory, or one of other lengths, which is not kept
 pub step-transition : (s : State) (m n : Memory) → fits s m ≡ true → (n ≡ m) ⊎ (fits s n ≡ false) → (c : Call)
-    → Transition s m (lineOf s n c) (outcomeOf s n c .state) (pick (fits s n) (outcomeOf s n c .memory) m)
+    → Transition s m (lineFor s n c) (outcomeOf s n c .state) (pick (fits s n) (outcomeOf s n c .memory) m)
 step-transition s m n f d c = ⊎-elim
     (λ (q : n ≡ m). rw (q, f) (transition s m c))
     (λ u. rw u (unfit s n u m c))

@@ -10,7 +10,14 @@ use Rattle.model.specs.Threads.{startChange, endChange}
 use Rattle.model.specs.Scopes.{makeChange, enterChange, exitChange}
 use Rattle.model.specs.Objects.{currentAt, allocateRest, allocateState, allocateMemory, allocateValue}
 use Rattle.model.specs.References.{storeAfter, wordAfter, storeRest, loadRest}
-use Rattle.model.specs.Data.{dataIndex, dataRest, viewStatus, viewWords}
+use Rattle.model.specs.Data.{dataIndex, dataRest, viewRefusal, viewWords}
+
+-- the calls that change nothing: ops 08 and 0a, the shown part and its status call
+pub data Question : Type 0 where
+  loads : (t p q : ℕ) → Question
+  reads : (t p q : ℕ) → Question
+  views : (t p : ℕ) → Question
+  viewsStatus : (t p : ℕ) → Question
 
 -- Ops 01 to 0a, the shown part and its status call. The thread comes first, then the fields that the op uses.
 pub data Call : Type 0 where
@@ -21,11 +28,26 @@ pub data Call : Type 0 where
   exit : (t : ℕ) → Call
   allocate : (t q r : ℕ) → Call
   store : (t p q r : ℕ) → Call
-  load : (t p q : ℕ) → Call
   write : (t p q r : ℕ) → Call
-  read : (t p q : ℕ) → Call
-  view : (t p : ℕ) → Call
-  viewed : (t p : ℕ) → Call
+  asks : Question → Call
+
+abbrev pub load : ℕ → ℕ → ℕ → Call
+load t p q = asks (loads t p q)
+
+abbrev pub read : ℕ → ℕ → ℕ → Call
+read t p q = asks (reads t p q)
+
+abbrev pub view : ℕ → ℕ → Call
+view t p = asks (views t p)
+
+abbrev pub viewStatus : ℕ → ℕ → Call
+viewStatus t p = asks (viewsStatus t p)
+
+-- what a call answers
+pub record Reply : Type 0 where
+  pub status : ℕ
+  pub value : ℕ
+  pub words : List ℕ
 
 -- What a call does: the first refusal that meets, 0 where none does; and of the accepted call the value, the words that it shows, the state and
 -- the lent words that it leaves.
@@ -44,12 +66,19 @@ changing s m x = record { status = fitted s m (x .status); value = x .value; wor
 abbrev pub writing : State → ℕ → Memory → Effect
 writing s status next = record { status = status; value = 0; words = []; state = s; memory = next }
 
--- a call that only yields a value or shows words
-abbrev pub asking : State → Memory → ℕ → ℕ → List ℕ → Effect
-asking s m status value words = record { status = status; value = value; words = words; state = s; memory = m }
+-- The first refusal that a question meets, and what it yields where none does. "Refusals of this call (1, 2, 13, 5) show a part of length 0; a
+-- call beside it yields the status": so the view answers 0 always, a refused view is seen only by its empty part, and the call beside it has the refusal.
+abbrev pub replyTo : State → Memory → Question → Reply
+replyTo s m (loads t p q) = record { status = admit s m t (loadRest s m t p q); value = wordAfter s m p q; words = [] }
+replyTo s m (reads t p q) = record { status = admit s m t (dataRest s m t p q); value = wordAfter s m p (dataIndex s m p q); words = [] }
+replyTo s m (views t p) = record { status = 0; value = 0; words = viewWords s m t p }
+replyTo s m (viewsStatus t p) = record { status = viewRefusal s m t p; value = 0; words = [] }
 
--- One clause for each call. "Refusals of this call (1, 2, 13, 5) show a part of length 0; a call beside it yields the status": so view answers 0
--- always, a refused view is seen only by its empty part, and viewed has the refusal.
+-- a call that changes nothing
+abbrev pub asking : State → Memory → Reply → Effect
+asking s m x = record { status = x .status; value = x .value; words = x .words; state = s; memory = m }
+
+-- one clause for each call, and one for all questions
 abbrev pub effectOf : State → Memory → Call → Effect
 effectOf s m (start t p) = changing s m (startChange s t p)
 effectOf s m (end t) = changing s m (endChange s t)
@@ -64,11 +93,8 @@ effectOf s m (allocate t q r) = record {
   memory = allocateMemory s m (currentAt s t) q r;
 }
 effectOf s m (store t p q r) = writing s (admit s m t (storeRest s m t p q r)) (storeAfter s m p q r)
-effectOf s m (load t p q) = asking s m (admit s m t (loadRest s m t p q)) (wordAfter s m p q) []
 effectOf s m (write t p q r) = writing s (admit s m t (dataRest s m t p q)) (storeAfter s m p (dataIndex s m p q) r)
-effectOf s m (read t p q) = asking s m (admit s m t (dataRest s m t p q)) (wordAfter s m p (dataIndex s m p q)) []
-effectOf s m (view t p) = asking s m 0 0 (viewWords s m t p)
-effectOf s m (viewed t p) = asking s m (viewStatus s m t p) 0 []
+effectOf s m (asks x) = asking s m (replyTo s m x)
 
 -- ---- its parts
 
@@ -86,12 +112,6 @@ callState s m c = effectOf s m c .state
 
 abbrev pub callMemory : State → Memory → Call → Memory
 callMemory s m c = effectOf s m c .memory
-
--- what a call answers
-pub record Reply : Type 0 where
-  pub status : ℕ
-  pub value : ℕ
-  pub words : List ℕ
 
 -- what a call answers and leaves
 pub record Outcome : Type 0 where

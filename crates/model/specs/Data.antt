@@ -19,13 +19,13 @@ dataRest s m t p q = useRest s m t p (refuse (leb (dataOf (headerAt s m p)) q) 1
 abbrev pub dataIndex : State → Memory → ℕ → ℕ → ℕ
 dataIndex s m p q = slotsOf (headerAt s m p) + q
 
--- the call beside the shown part: "Refusals of this call (1, 2, 13, 5)"
-abbrev pub viewStatus : State → Memory → ℕ → ℕ → ℕ
-viewStatus s m t p = admit s m t (useRest s m t p 0)
+-- the shown part and the call beside it: "Refusals of this call (1, 2, 13, 5)"
+abbrev pub viewRefusal : State → Memory → ℕ → ℕ → ℕ
+viewRefusal s m t p = admit s m t (useRest s m t p 0)
 
 -- "shown as a part of the permanent or scratch store itself: exactly its d words. Refusals .. show a part of length 0"
 unfoldable pub viewWords : State → Memory → ℕ → ℕ → List ℕ
 viewWords s m t p =
-    pick (eqb (viewStatus s m t p) 0)
+    pick (eqb (viewRefusal s m t p) 0)
     (take (dataOf (headerAt s m p)) (drop (placeAfter s p (dataIndex s m p 0)) (storeOf m (areaOf p))))
     []
