@@ -134,7 +134,7 @@ pub extern "C" fn scopes_view_status(
     object: u64,
 ) -> Answer
     requires { ⌜ Usable words bytes ⌝ }
-    ensures { λ r. ⌜ Answers r words bytes permanent scratch map (calls.viewed t object) ⌝ }
+    ensures { λ r. ⌜ Answers r words bytes permanent scratch map (calls.viewStatus t object) ⌝ }
 {
     views::view_status(words, bytes, permanent, scratch, map, t, object)
 }

@@ -7,8 +7,8 @@ use lib.Dec.{eqb}
 use borrow.Author.Tests.{eqb-true, eqb-false}
 use Rattle.layout.specs.Choice.{cases}
 use Rattle.model.specs.State.{Memory}
-use Rattle.model.specs.Data.{viewStatus, viewWords}
-use Rattle.model.specs.Calls.{view, viewed, outcomeOf}
+use Rattle.model.specs.Data.{viewRefusal, viewWords}
+use Rattle.model.specs.Calls.{view, viewStatus, outcomeOf}
 use Rattle.tables.specs.Decode.{stateOf}
 use Rattle.tables.specs.Contract.{Ready, plain, viewReply, Answered}
 use Rattle.tables.specs.AnsweredLaws.{answered-refused, answered-accepted}
@@ -27,12 +27,12 @@ module _ (w b : List ℕ) (m : Memory) (t p : ℕ) (y : Ready w b) where
     pub place-shows : Answered w b m (view t p) (viewReply (wordsThere r m)) w b m
     place-shows = view-answered (there-is (stateOf w b) m t p r e)
 
-    status-is : r .status ≡ viewStatus (stateOf w b) m t p
+    status-is : r .status ≡ viewRefusal (stateOf w b) m t p
     unfolding viewPlaceOf
     status-is = ap (λ (x : ViewPlace). x .status) e
 
-    pub place-tells : Answered w b m (viewed t p) (plain (r .status) 0) w b m
-    place-tells = rw status-is (cases (eqb (viewStatus (stateOf w b) m t p) 0)
-        (λ k. let z = eqb-true (viewStatus (stateOf w b) m t p) 0 k in
-        rw z (answered-accepted w b m (viewed t p) y refl z refl refl (record { sized = y .sized; state = refl }) refl))
-        (λ k. answered-refused w b m (viewed t p) y refl (eqb-false (viewStatus (stateOf w b) m t p) 0 k)))
+    pub place-tells : Answered w b m (viewStatus t p) (plain (r .status) 0) w b m
+    place-tells = rw status-is (cases (eqb (viewRefusal (stateOf w b) m t p) 0)
+        (λ k. let z = eqb-true (viewRefusal (stateOf w b) m t p) 0 k in
+        rw z (answered-accepted w b m (viewStatus t p) y refl z refl refl (record { sized = y .sized; state = refl }) refl))
+        (λ k. answered-refused w b m (viewStatus t p) y refl (eqb-false (viewRefusal (stateOf w b) m t p) 0 k)))

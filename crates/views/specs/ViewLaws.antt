@@ -16,7 +16,7 @@ use Rattle.layout.specs.Header.{dataOf}
 use Rattle.model.specs.State.{State, Memory, isScope}
 use Rattle.model.specs.Checks.{headerAt}
 use Rattle.model.specs.References.{placeAfter}
-use Rattle.model.specs.Data.{dataIndex, viewStatus, viewWords}
+use Rattle.model.specs.Data.{dataIndex, viewRefusal, viewWords}
 use Rattle.model.specs.Invariant.{Good}
 use Rattle.model.proofs.Accepted.{admitted, use-ok}
 use Rattle.objects.specs.declared.find.Resolved.{Resolved}
@@ -30,12 +30,12 @@ use Rattle.views.specs.PlacedView.{viewStore, viewFrom, viewLength, view
 module _ (s : State) (m : Memory) (t p : ℕ) where
   -- ---- what is shown, by numbers: of a refused call
 
-  pub place-refused : {n : ℕ} → n ≡ viewStatus s m t p → n ≢ 0 → record { status = n; store = 0; from = 0; len = 0 } ≡ viewPlaceOf s m t p
+  pub place-refused : {n : ℕ} → n ≡ viewRefusal s m t p → n ≢ 0 → record { status = n; store = 0; from = 0; len = 0 } ≡ viewPlaceOf s m t p
   unfolding viewPlaceOf viewStore viewFrom viewLength
-  place-refused e h = rw (ne-eqb (viewStatus s m t p) 0 (λ z. h (e ∙ z)), ← e) refl
+  place-refused e h = rw (ne-eqb (viewRefusal s m t p) 0 (λ z. h (e ∙ z)), ← e) refl
 
   -- of an accepted one, with its object
-  module _ (z : viewStatus s m t p ≡ 0) (o : Resolved) (e : o ≡ objectOf s m p) where
+  module _ (z : viewRefusal s m t p ≡ 0) (o : Resolved) (e : o ≡ objectOf s m p) where
     from-is : o .at + 1 + o .slots ≡ placeAfter s p (dataIndex s m p 0)
     from-is =
         let d : o .slots + 0 ≡ o .slots = omega arith in
@@ -54,11 +54,11 @@ module _ (s : State) (m : Memory) (t p : ℕ) where
 
   words-there : take (viewLength s m t p) (drop (viewFrom s m t p) (viewStore s m t p (m .permanent) (m .scratch))) ≡ viewWords s m t p
   unfolding viewWords viewStore viewFrom viewLength
-  words-there = cases (eqb (viewStatus s m t p) 0) (λ k. rw k refl) (λ k. rw k refl)
+  words-there = cases (eqb (viewRefusal s m t p) 0) (λ k. rw k refl) (λ k. rw k refl)
 
   in-permanent : {A : Type 0} (x y : A) → _≡_ {A = ℕ} (viewStore s m t p 0 1) 0 → viewStore s m t p x y ≡ x
   unfolding viewStore
-  in-permanent x y = by (eqb (viewStatus s m t p) 0) (isScope (areaOf p))
+  in-permanent x y = by (eqb (viewRefusal s m t p) 0) (isScope (areaOf p))
     where
       by : (b c : Bool) → _≡_ {A = ℕ} (pick b (pick c 1 0) 0) 0 → pick b (pick c y x) x ≡ x
       by true true h = absurd (omega arith)
@@ -67,7 +67,7 @@ module _ (s : State) (m : Memory) (t p : ℕ) where
 
   in-scratch : {A : Type 0} (x y : A) → _≢_ {A = ℕ} (viewStore s m t p 0 1) 0 → viewStore s m t p x y ≡ y
   unfolding viewStore
-  in-scratch x y = by (eqb (viewStatus s m t p) 0) (isScope (areaOf p))
+  in-scratch x y = by (eqb (viewRefusal s m t p) 0) (isScope (areaOf p))
     where
       by : (b c : Bool) → _≢_ {A = ℕ} (pick b (pick c 1 0) 0) 0 → pick b (pick c y x) x ≡ y
       by true true h = refl
@@ -77,8 +77,8 @@ module _ (s : State) (m : Memory) (t p : ℕ) where
   room : Good s → (viewFrom s m t p + viewLength s m t p ≤ 16384)
       × (viewFrom s m t p + viewLength s m t p ≤ length (viewStore s m t p (m .permanent) (m .scratch)))
   unfolding viewStore viewFrom viewLength
-  room g = cases (eqb (viewStatus s m t p) 0)
-      (λ k. let z : viewStatus s m t p ≡ 0 = eqb-true (viewStatus s m t p) 0 k in
+  room g = cases (eqb (viewRefusal s m t p) 0)
+      (λ k. let z : viewRefusal s m t p ≡ 0 = eqb-true (viewRefusal s m t p) 0 k in
       let o : Resolved = objectOf s m p in
       let l = object-in z o refl g in
       rw (k, ← from-is z o refl, ← data-words-is s m p o refl, ← area-is s m p o refl) (omega (arith, l .low), omega (arith, l .inside)))

@@ -7,7 +7,7 @@ use tables::Words;
 ghost use mathlib.Core.Path.{_≡_};
 ghost use Rattle.layout.specs.Choice.{pick};
 ghost use Rattle.model.specs.State.{isScope};
-ghost use Rattle.model.specs.Data.{viewStatus};
+ghost use Rattle.model.specs.Data.{viewRefusal};
 ghost use Rattle.model.specs.Calls as calls;
 ghost use Rattle.tables.specs.Contract.{before, supplied, Usable, viewReply, Replies, Answers};
 ghost use Rattle.objects.specs.Resolving.{Checks};
@@ -34,7 +34,7 @@ fn check_view(
     p: u64,
 ) -> Checked
     requires { ⌜ Usable words bytes ⌝ }
-    ensures { λ r. ⌜ Checks r words bytes permanent scratch map p (λ s m. viewStatus s m t p) ⌝ }
+    ensures { λ r. ⌜ Checks r words bytes permanent scratch map p (λ s m. viewRefusal s m t p) ⌝ }
 {
     let n = threads::check_caller(words, bytes, permanent, scratch, map, t);
     if n != 0 {
@@ -117,7 +117,7 @@ pub fn view_status(
     p: u64,
 ) -> Answer
     requires { ⌜ Usable words bytes ⌝ }
-    ensures { λ r. ⌜ Answers r words bytes permanent scratch map (calls.viewed t p) ⌝ }
+    ensures { λ r. ⌜ Answers r words bytes permanent scratch map (calls.viewStatus t p) ⌝ }
 {
     match check_view(words, bytes, permanent, scratch, map, t, p) {
         Checked::Refused(status) => Answer { status, value: 0 },

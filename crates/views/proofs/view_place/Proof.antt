@@ -4,7 +4,7 @@ use borrow.Author.Needs.{needs}
 use Rattle.model.specs.State.{State, Memory}
 use Rattle.tables.specs.Contract.{stateIn, memoryIn}
 use native.Mathlib.Omega.{arith}
-use Rattle.model.specs.Data.{viewStatus}
+use Rattle.model.specs.Data.{viewRefusal}
 use Rattle.objects.specs.Found.{objectOf}
 use Rattle.objects.specs.Places.{Lies}
 use Rattle.objects.specs.Checked.{checked-object, checked-refused}
@@ -25,7 +25,7 @@ memory c = memoryIn (start c .args .permanent) (start c .args .scratch) (start c
 abbrev past : tie.After-o → tie.After-check-view
 past c = c .before .before
 
-used : (c : tie.After-o) → (viewStatus (state (past c)) (memory (past c)) (start (past c) .args .t) (start (past c) .args .p) ≡ 0) × (c .o .given .0 .0 ≡ objectOf (state (past c)) (memory (past c)) (start (past c) .args .p))
+used : (c : tie.After-o) → (viewRefusal (state (past c)) (memory (past c)) (start (past c) .args .t) (start (past c) .args .p) ≡ 0) × (c .o .given .0 .0 ≡ objectOf (state (past c)) (memory (past c)) (start (past c) .args .p))
 used c = checked-object _ (sym (c .o .given .1) ∙ past c .check-view .ensures)
 
 lies : (c : tie.After-o) → Lies (memory (past c)) (c .o .given .0 .0)

@@ -19,7 +19,7 @@ abbrev memory : tie.After-check-view → Memory
 memory c = memoryIn (start c .args .permanent) (start c .args .scratch) (start c .args .map)
 
 abbrev call : tie.After-check-view → calls.Call
-call c = calls.viewed (start c .args .t) (start c .args .p)
+call c = calls.viewStatus (start c .args .t) (start c .args .p)
 
 check-view-requires : tie.Need-check-view-requires
 check-view-requires c κs = search needs
