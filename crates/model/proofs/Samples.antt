@@ -9,9 +9,12 @@ use Rattle.model.specs.Calls.{Call, start, make, enter, exit, allocate, 
 use Rattle.model.specs.Run.{World, begin}
 use Rattle.model.proofs.SampleRuns.{copies, statuses, values}
 
--- 16 words each of heap and immortal, 4,096 of scratch
+-- 16 words each of heap and immortal, 32 of scratch; and the same with 4,096 of scratch
 first : World
-first = begin 16 16 (record { permanent = copies 32 0; scratch = copies 4096 0; map = copies 65 0 })
+first = begin 16 16 (record { permanent = copies 32 0; scratch = copies 32 0; map = copies 1 0 })
+
+wide : World
+wide = begin 16 16 (record { permanent = copies 32 0; scratch = copies 4096 0; map = copies 65 0 })
 
 -- the last of a list of numbers
 last : List ℕ → ℕ
@@ -43,7 +46,7 @@ rows =
     ∷ (3 ∷ statuses first full)
     ∷ (4 ∷ last (statuses first (full ++ allocate 0 0 0 ∷ [])) ∷ [])
     ∷ (5 ∷ values first (full ++ exit 0 ∷ enter 0 2 ∷ allocate 0 3 4 ∷ []))
-    ∷ (6 ∷ statuses first (start 0 2 ∷ make 0 2 4090 ∷ make 0 3 6 ∷ make 0 4 1 ∷ []))
+    ∷ (6 ∷ statuses wide (start 0 2 ∷ make 0 2 4090 ∷ make 0 3 6 ∷ make 0 4 1 ∷ []))
     ∷ (7 ∷ statuses first (nested ++ enter 1 3 ∷ []))
     ∷ (8 ∷ statuses first (nested ++ enter 1 2 ∷ enter 1 0 ∷ enter 1 3 ∷ []))
     ∷ (9 ∷ last (statuses first (objects ++ store 0 1097728 0 1081344 ∷ [])) ∷ [])
@@ -66,5 +69,5 @@ pub samples : rows
     ∷ (11 ∷ 0 ∷ 9 ∷ [])
     ∷ (12 ∷ 0 ∷ 5 ∷ [])
     ∷ []
-unfolding first last full nested objects heaps rows statuses values
+unfolding first wide last full nested objects heaps rows statuses values
 samples = refl
