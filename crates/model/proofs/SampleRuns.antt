@@ -2,6 +2,7 @@
 -- Assumes nothing.
 use Prim.Native.Nat.{ℕ}
 use mathlib.Core.List.{List, [], _∷_, map}
+use mathlib.Core.Path.{_≡_, refl}
 use lib.ListN.{replicate}
 use Rattle.layout.specs.Choice.{refuse}
 use Rattle.layout.specs.Handle.{handleOf, offsetOf, areaOf, generationOf}
@@ -10,8 +11,8 @@ use Rattle.layout.specs.Stack.{down}
 use Rattle.bitmap.specs.Bitmap.{bitAt, withBit, withoutBit, cleared}
 use Rattle.rights.specs.Rights.{classOf, rightsRows, rightDigit, allows}
 use Rattle.display.specs.Display.{rowHolds}
-use Rattle.model.specs.State.{State, Memory, withArea, withRow, withThread, withTaken, entriesOf, innermost, isMade, displayHolds, withStore}
-use Rattle.model.specs.SetUp.{firstState}
+use Rattle.model.specs.State.{State, Memory, noArea, withWords, withUsed, withGeneration, withCount, withParent, withKind, withStack, withArea, withRow, withThread, withTaken, entriesOf, innermost, isMade, displayHolds, withStore}
+use Rattle.model.specs.SetUp.{standing, newThread, firstState}
 use Rattle.model.specs.Checks.{fits, fitted, called, hasRight, live, isObject, isReference, useRest}
 use Rattle.model.specs.Threads.{startRest, startState, endRest, endState}
 use Rattle.model.specs.Scopes.{makeRest, makeState, otherParent, atLastGeneration, enterRest, enteredArea, pushed, enterState, enterValue, exitRest, leftArea, popped, exitState, exitValue}
@@ -84,12 +85,40 @@ first = begin 3 6 (record { permanent = copies 9 9; scratch = copies 12 9; map =
 
 -- Thread 1 is ordinary, 2 real-time, 3 no-heap, as their kinds. Thread 2 is in immortal memory, then in scope 2 of 6 words, then in scope 3
 -- of 4 words. An object of 1 slot and 1 data word fills the heap; one of 2 and 2 is in immortal memory, one of 1 and 2 in scope 2, one of 1
--- slot in scope 3.
+-- slot in scope 3. The world is written out, so that no sample runs these calls again.
 unfoldable pub busy : World
-unfolding first after
-busy = after first
-    (start 1 1 ∷ start 2 2 ∷ start 3 3 ∷ make 2 2 6 ∷ make 2 3 4 ∷ allocate 2 1 1
-    ∷ enter 2 1 ∷ allocate 2 2 2 ∷ enter 2 2 ∷ allocate 2 1 2 ∷ enter 2 3 ∷ allocate 2 1 0 ∷ [])
+busy = record {
+  state = record {
+    areas =
+        withUsed (standing 0 3) 3 ∷ withUsed (standing 3 6) 5
+        ∷ withParent (withCount (withGeneration (withUsed (withWords noArea 0 6) 4) 1) 1) 0 1
+        ∷ withParent (withCount (withGeneration (withUsed (withWords noArea 6 4) 2) 1) 1) 2 2
+        ∷ replicate 60 noArea;
+    rows = copies 32 0 ∷ copies 32 0 ∷ (2 ∷ copies 31 0) ∷ (2 ∷ 3 ∷ copies 30 0) ∷ replicate 60 (copies 32 0);
+    threads =
+        newThread ∷ withKind newThread 1
+        ∷ withStack (withKind newThread 2) 3 (1 ∷ 2 ∷ 3 ∷ copies 29 0) (0 ∷ 2 ∷ 3 ∷ copies 29 0)
+        ∷ withKind newThread 3 ∷ replicate 12 newThread;
+    lengths = record { permanent = 9; scratch = 12; map = 1 };
+    taken = 10;
+  };
+  memory = record {
+    permanent = 16385 ∷ 0 ∷ 0 ∷ 32770 ∷ 0 ∷ 0 ∷ 0 ∷ 0 ∷ 9 ∷ [];
+    scratch = 32769 ∷ 0 ∷ 0 ∷ 0 ∷ 9 ∷ 9 ∷ 1 ∷ 0 ∷ 9 ∷ 9 ∷ 9 ∷ 9 ∷ [];
+    map = 18446744073709478665 ∷ [];
+  };
+  trace = [];
+}
+
+-- it is what these calls leave
+abbrev pub busily : List Call
+busily =
+    start 1 1 ∷ start 2 2 ∷ start 3 3 ∷ make 2 2 6 ∷ make 2 3 4 ∷ allocate 2 1 1
+    ∷ enter 2 1 ∷ allocate 2 2 2 ∷ enter 2 2 ∷ allocate 2 1 2 ∷ enter 2 3 ∷ allocate 2 1 0 ∷ []
+
+pub busy-is : (after first busily .state ≡ busy .state) × (after first busily .memory ≡ busy .memory)
+unfolding after first busy
+busy-is = (refl, refl)
 
 -- their handles: offset 0 and generation 1
 abbrev pub inHeap : ℕ
