@@ -1,7 +1,7 @@
 // Ops 09 and 0a: a data word is written or read.
 use crate::spot;
 use crate::spot::Spot;
-use layout::stack::Answer;
+use layout::answer::Answer;
 use tables::Bytes;
 use tables::Words;
 ghost use mathlib.Core.Path.{_≡_};

@@ -1,4 +1,5 @@
 // One thread's scope stack as a record of its own, by value, and places on a stack.
+use crate::answer::Answer;
 ghost use mathlib.Core.Path.{_≡_};
 ghost use Rattle.layout.specs.Stack.{emptyStack, heightOf, pushAnswer, pushedStack, popAnswer, poppedStack};
 
@@ -11,13 +12,6 @@ pub struct Place(pub usize);
 pub struct ScopeStack {
     pub len: u64,
     pub entries: [u8; 32],
-}
-
-// What a call answers: status 0 and a value, or a refusal and 0.
-#[repr(C)]
-pub struct Answer {
-    pub status: u64,
-    pub value: u64,
 }
 
 pub fn empty() -> ScopeStack

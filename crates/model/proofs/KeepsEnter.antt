@@ -10,7 +10,7 @@ use lib.Dec.{eqb, ltb}
 use native.Mathlib.Omega.{arith}
 use borrow.Author.Tests.{ltb-true, eqb-true, eqb-false, le-leb, lt-leb, lt-ltb, le-ltb}
 use Rattle.layout.specs.Choice.{cases, or-true}
-use Rattle.display.specs.Display.{extendedRow}
+use Rattle.layout.specs.Display.{extendedRow}
 use Rattle.layout.specs.StackLaws.{length-down, down-push}
 use Rattle.model.specs.declared.Area.{Area}
 use Rattle.model.specs.State.{Thread, State, Memory, noThread, areaAt, rowAt, threadAt, withArea, withRow, withThread, stackOf, stackAt, innermost, isMade, displayAt}

@@ -10,7 +10,7 @@ use native.Mathlib.Numerals.{add-one}
 use lib.ListN.{length, take, getD, replicate, length-replicate}
 use lib.Seq.{take-suc}
 use Rattle.layout.specs.Choice.{pick-true}
-use Rattle.layout.specs.declared.stack.Answer.{Answer}
+use Rattle.layout.specs.declared.answer.Answer.{Answer}
 use Rattle.model.specs.declared.Lengths.{Lengths}
 use Rattle.model.specs.SetUp.{lengthsOf, setUpStatus, setUpState, firstState}
 use Rattle.model.specs.Run.{World, begin}

@@ -1,7 +1,7 @@
 // Feeding: the input comes in chunks, each line that ends is answered, and the line so far waits for
 // the next chunk.
 use digits::digit::Text;
-use layout::stack::Answer;
+use layout::answer::Answer;
 use lines::frame::Fields;
 use lines::frame::Line;
 use scopes::Op;

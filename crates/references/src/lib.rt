@@ -1,8 +1,8 @@
 // Ops 07 and 08: a reference is stored in a slot, or loaded from one.
 use access::Spot;
-use display::Depth;
+use layout::answer::Answer;
+use layout::display::Depth;
 use layout::handle;
-use layout::stack::Answer;
 use objects::Found;
 use rights::Right;
 use tables::Bytes;

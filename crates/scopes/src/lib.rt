@@ -1,5 +1,5 @@
 // The core: a call of any op, carried out in place on the tables and the buffers that are lent.
-use layout::stack::Answer;
+use layout::answer::Answer;
 use tables::Bytes;
 use tables::Words;
 ghost use Rattle.tables.specs.Contract.{Ready, Answers};

@@ -5,7 +5,7 @@ use mathlib.Core.Path.{_≡_}
 use Prim.Native.Nat.{ℕ}
 use denote.Ref.{RefT, now}
 use denote.Triple.Both.{Both}
-use Rattle.layout.specs.declared.stack.Answer.{Answer}
+use Rattle.layout.specs.declared.answer.Answer.{Answer}
 use Rattle.model.specs.State.{State, Memory}
 use Rattle.model.specs.Calls.{Call, Reply, Outcome, outcomeOf}
 use Rattle.model.specs.Invariant.{Good}

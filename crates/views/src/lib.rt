@@ -1,7 +1,7 @@
 // An object's data shown as a part of the permanent or scratch store itself, and the call beside it
 // that yields the status.
 use access::Spot;
-use layout::stack::Answer;
+use layout::answer::Answer;
 use tables::Bytes;
 use tables::Words;
 ghost use mathlib.Core.Path.{_≡_};

@@ -5,10 +5,10 @@ use native.Mathlib.Numerals.{add-one}
 use native.Mathlib.Omega.{arith}
 use lib.ListN.{length}
 use borrow.Author.Needs.{needs}
-use Rattle.display.specs.Display.{extendedRow}
-use Rattle.display.specs.DisplayLaws.{soFar, so-far-none, so-far-more, so-far-all}
-use Rattle.display.proofs.extended.Statement.{statement}
-use Rattle.display.proofs.extended.Tie as tie
+use Rattle.layout.specs.Display.{extendedRow}
+use Rattle.layout.specs.DisplayLaws.{soFar, so-far-none, so-far-more, so-far-all}
+use Rattle.layout.proofs.display.extended.Statement.{statement}
+use Rattle.layout.proofs.display.extended.Tie as tie
 
 abbrev Inv-loop : tie.InvT-loop
 Inv-loop area last next₀ at₀ place₀ next at place = (at ≤ 32) × (place ≡ at) × (next ≡ soFar next₀ last area at) × (length next ≡ 32)

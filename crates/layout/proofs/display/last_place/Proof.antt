@@ -4,8 +4,8 @@ use Prim.Native.Nat.{ℕ, _<_}
 use native.Mathlib.Omega.{arith}
 use lib.Bits.{bitAnd, and-mask}
 use borrow.Author.Needs.{needs}
-use Rattle.display.proofs.last_place.Statement.{statement}
-use Rattle.display.proofs.last_place.Tie as tie
+use Rattle.layout.proofs.display.last_place.Statement.{statement}
+use Rattle.layout.proofs.display.last_place.Tie as tie
 
 masked : (n : ℕ) → n < 32 → bitAnd n 255 ≡ n
 masked n h = and-mask n 8 ∙ omega arith

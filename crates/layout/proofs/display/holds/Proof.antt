@@ -2,9 +2,9 @@
 use native.Mathlib.Omega.{arith}
 use borrow.Author.Needs.{needs}
 use borrow.Author.Tests.{lt-ltb, le-ltb}
-use Rattle.display.specs.Display.{rowHolds}
-use Rattle.display.proofs.holds.Statement.{statement}
-use Rattle.display.proofs.holds.Tie as tie
+use Rattle.layout.specs.Display.{rowHolds}
+use Rattle.layout.proofs.display.holds.Statement.{statement}
+use Rattle.layout.proofs.display.holds.Tie as tie
 
 returns : tie.Need-returns
 unfolding rowHolds

@@ -10,8 +10,8 @@ use lib.Dec.{eqb, ltb}
 use borrow.Author.Tests.{ltb-true, ltb-false, eqb-true, eqb-false, lt-ltb, le-ltb, eq-eqb}
 use lib.ListN.{length, getD, set, take, length-set}
 use lib.Seq.{getD-set-same, getD-set-other, take-set-le, take-suc-set}
 use Rattle.layout.specs.Choice.{pick, cases, and-true}
-use Rattle.display.specs.Display.{extendedRow, rowHolds}
+use Rattle.layout.specs.Display.{extendedRow, rowHolds}
 
 module _ (row : List ℕ) (depth area : ℕ) where
   pub length-extended : length (extendedRow row depth area) ≡ length row

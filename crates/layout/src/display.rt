@@ -2,8 +2,8 @@
 ghost use mathlib.Core.Path.{_≡_};
 ghost use Prim.Native.Nat.{_<_, _≤_};
 ghost use lib.ListN.{length};
 ghost use Rattle.layout.specs.Choice.{pick};
-ghost use Rattle.display.specs.Display.{extendedRow, rowHolds};
+ghost use Rattle.layout.specs.Display.{extendedRow, rowHolds};
 
 // A display has room for as many scopes as a stack has entries.
 pub type Row = [u8; 32];
