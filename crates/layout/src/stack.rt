@@ -24,7 +24,7 @@ pub fn empty() -> ScopeStack
 }
 
 // The place above the top: no more than 32 entries count, whatever the record says.
-pub fn height(s: ScopeStack) -> Place
+fn height(s: ScopeStack) -> Place
     ensures { λ r. ⌜ r .0 ≡ heightOf s ⌝ }
 {
     if s.len < 32 {

@@ -1,6 +1,6 @@
 -- `carry_out` meets its contract, by that of each op.
 use mathlib.Core.Path.{refl}
-use Rattle.scopes.specs.declared.Op.the-variants.{Start, End, Make, Enter, Exit, Allocate, Store, Load, Write, Read}
+use Rattle.model.specs.declared.Op.the-variants.{Start, End, Make, Enter, Exit, Allocate, Store, Load, Write, Read}
 use Rattle.scopes.specs.Step.{answered-by, kept-words, kept-tables}
 use borrow.Author.Needs.{needs}
 use Rattle.scopes.proofs.carry_out.Statement.{statement}
@@ -76,7 +76,7 @@ same-length-3 : tie.Need-same-length-3
 same-length-3 c = search needs
 
 returns : tie.Need-returns
-returns c = answered-by _ _ _ _ _ _ _ _ _ _ _ Start _ _ _ _ _ _ (c .before .before .before .before .before .before .enum-told .given .1) (c .start .ensures) (kept-words _ _ _ _ _ refl)
+returns c = answered-by _ _ _ _ _ _ _ _ _ _ _ Start _ _ _ _ _ _ (c .before .before .before .before .before .before .enum-told .given .1) refl (c .start .ensures) (kept-words _ _ _ _ _ refl)
 
 same-length-4 : tie.Need-same-length-4
 same-length-4 c = search needs
@@ -88,7 +88,7 @@ same-length-6 : tie.Need-same-length-6
 same-length-6 c = search needs
 
 returns-2 : tie.Need-returns-2
-returns-2 c = answered-by _ _ _ _ _ _ _ _ _ _ _ End _ _ _ _ _ _ (c .before .before .before .before .before .before .enum-told2 .given .1) (c .end .ensures) (kept-words _ _ _ _ _ refl)
+returns-2 c = answered-by _ _ _ _ _ _ _ _ _ _ _ End _ _ _ _ _ _ (c .before .before .before .before .before .before .enum-told2 .given .1) refl (c .end .ensures) (kept-words _ _ _ _ _ refl)
 
 same-length-7 : tie.Need-same-length-7
 same-length-7 c = search needs
@@ -100,7 +100,7 @@ same-length-9 : tie.Need-same-length-9
 same-length-9 c = search needs
 
 returns-3 : tie.Need-returns-3
-returns-3 c = answered-by _ _ _ _ _ _ _ _ _ _ _ Make _ _ _ _ _ _ (c .before .before .before .before .before .before .enum-told3 .given .1) (c .make .ensures) (kept-words _ _ _ _ _ refl)
+returns-3 c = answered-by _ _ _ _ _ _ _ _ _ _ _ Make _ _ _ _ _ _ (c .before .before .before .before .before .before .enum-told3 .given .1) refl (c .make .ensures) (kept-words _ _ _ _ _ refl)
 
 same-length-10 : tie.Need-same-length-10
 same-length-10 c = search needs
@@ -112,7 +112,7 @@ same-length-12 : tie.Need-same-length-12
 same-length-12 c = search needs
 
 returns-4 : tie.Need-returns-4
-returns-4 c = answered-by _ _ _ _ _ _ _ _ _ _ _ Enter _ _ _ _ _ _ (c .before .before .before .before .before .before .enum-told4 .given .1) (c .enter .ensures) (kept-words _ _ _ _ _ refl)
+returns-4 c = answered-by _ _ _ _ _ _ _ _ _ _ _ Enter _ _ _ _ _ _ (c .before .before .before .before .before .before .enum-told4 .given .1) refl (c .enter .ensures) (kept-words _ _ _ _ _ refl)
 
 same-length-13 : tie.Need-same-length-13
 same-length-13 c = search needs
@@ -124,7 +124,7 @@ same-length-15 : tie.Need-same-length-15
 same-length-15 c = search needs
 
 returns-5 : tie.Need-returns-5
-returns-5 c = answered-by _ _ _ _ _ _ _ _ _ _ _ Exit _ _ _ _ _ _ (c .before .before .before .before .before .before .enum-told5 .given .1) (c .exit .ensures) (kept-words _ _ _ _ _ refl)
+returns-5 c = answered-by _ _ _ _ _ _ _ _ _ _ _ Exit _ _ _ _ _ _ (c .before .before .before .before .before .before .enum-told5 .given .1) refl (c .exit .ensures) (kept-words _ _ _ _ _ refl)
 
 same-length-16 : tie.Need-same-length-16
 same-length-16 c = search needs
@@ -136,7 +136,7 @@ same-length-18 : tie.Need-same-length-18
 same-length-18 c = search needs
 
 returns-6 : tie.Need-returns-6
-returns-6 c = answered-by _ _ _ _ _ _ _ _ _ _ _ Allocate _ _ _ _ _ _ (c .before .before .before .before .before .before .before .before .before .before .before .before .enum-told6 .given .1) (c .before .before .before .before .before .before .allocate .ensures .0) (c .before .before .before .before .before .before .allocate .ensures .1)
+returns-6 c = answered-by _ _ _ _ _ _ _ _ _ _ _ Allocate _ _ _ _ _ _ (c .before .before .before .before .before .before .before .before .before .before .before .before .enum-told6 .given .1) refl (c .before .before .before .before .before .before .allocate .ensures .0) (c .before .before .before .before .before .before .allocate .ensures .1)
 
 same-length-19 : tie.Need-same-length-19
 same-length-19 c = search needs
@@ -148,7 +148,7 @@ same-length-21 : tie.Need-same-length-21
 same-length-21 c = search needs
 
 returns-7 : tie.Need-returns-7
-returns-7 c = answered-by _ _ _ _ _ _ _ _ _ _ _ Store _ _ _ _ _ _ (c .before .before .before .before .before .before .before .before .before .before .enum-told7 .given .1) (kept-tables _ _ _ _ _ (c .before .before .before .before .before .before .before .before .before .before .before .before .before .before .before .pre) (c .before .before .before .before .store .ensures .0)) (c .before .before .before .before .store .ensures .1)
+returns-7 c = answered-by _ _ _ _ _ _ _ _ _ _ _ Store _ _ _ _ _ _ (c .before .before .before .before .before .before .before .before .before .before .enum-told7 .given .1) refl (kept-tables _ _ _ _ _ (c .before .before .before .before .before .before .before .before .before .before .before .before .before .before .before .pre) (c .before .before .before .before .store .ensures .0)) (c .before .before .before .before .store .ensures .1)
 
 same-length-22 : tie.Need-same-length-22
 same-length-22 c = search needs
@@ -160,7 +160,7 @@ same-length-24 : tie.Need-same-length-24
 same-length-24 c = search needs
 
 returns-8 : tie.Need-returns-8
-returns-8 c = answered-by _ _ _ _ _ _ _ _ _ _ _ Load _ _ _ _ _ _ (c .before .before .before .before .before .before .enum-told8 .given .1) (kept-tables _ _ _ _ _ (c .before .before .before .before .before .before .before .before .before .before .before .pre) (c .load .ensures)) (kept-words _ _ _ _ _ refl)
+returns-8 c = answered-by _ _ _ _ _ _ _ _ _ _ _ Load _ _ _ _ _ _ (c .before .before .before .before .before .before .enum-told8 .given .1) refl (kept-tables _ _ _ _ _ (c .before .before .before .before .before .before .before .before .before .before .before .pre) (c .load .ensures)) (kept-words _ _ _ _ _ refl)
 
 same-length-25 : tie.Need-same-length-25
 same-length-25 c = search needs
@@ -172,7 +172,7 @@ same-length-27 : tie.Need-same-length-27
 same-length-27 c = search needs
 
 returns-9 : tie.Need-returns-9
-returns-9 c = answered-by _ _ _ _ _ _ _ _ _ _ _ Write _ _ _ _ _ _ (c .before .before .before .before .before .before .before .before .before .before .enum-told9 .given .1) (kept-tables _ _ _ _ _ (c .before .before .before .before .before .before .before .before .before .before .before .before .before .before .before .pre) (c .before .before .before .before .write .ensures .0)) (c .before .before .before .before .write .ensures .1)
+returns-9 c = answered-by _ _ _ _ _ _ _ _ _ _ _ Write _ _ _ _ _ _ (c .before .before .before .before .before .before .before .before .before .before .enum-told9 .given .1) refl (kept-tables _ _ _ _ _ (c .before .before .before .before .before .before .before .before .before .before .before .before .before .before .before .pre) (c .before .before .before .before .write .ensures .0)) (c .before .before .before .before .write .ensures .1)
 
 same-length-28 : tie.Need-same-length-28
 same-length-28 c = search needs
@@ -184,7 +184,7 @@ same-length-30 : tie.Need-same-length-30
 same-length-30 c = search needs
 
 returns-10 : tie.Need-returns-10
-returns-10 c = answered-by _ _ _ _ _ _ _ _ _ _ _ Read _ _ _ _ _ _ (c .before .before .before .before .before .before .enum-told10 .given .1) (kept-tables _ _ _ _ _ (c .before .before .before .before .before .before .before .before .before .before .before .pre) (c .read .ensures)) (kept-words _ _ _ _ _ refl)
+returns-10 c = answered-by _ _ _ _ _ _ _ _ _ _ _ Read _ _ _ _ _ _ (c .before .before .before .before .before .before .enum-told10 .given .1) refl (kept-tables _ _ _ _ _ (c .before .before .before .before .before .before .before .before .before .before .before .pre) (c .read .ensures)) (kept-words _ _ _ _ _ refl)
 
 pub carry-out-spec : {M : Type 1} → statement M
 carry-out-spec =
