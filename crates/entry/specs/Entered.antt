@@ -9,7 +9,7 @@ use lib.Dec.{leb, ltb}
 use lib.ListN.{length, getD, length-set}
 use borrow.Author.Tests.{le-leb, lt-leb, lt-ltb, le-ltb}
 use Rattle.layout.specs.Choice.{pick, cases}
-use Rattle.display.specs.Display.{extendedRow}
+use Rattle.layout.specs.Display.{extendedRow}
 use Rattle.model.specs.declared.Area.{Area}
 use Rattle.model.specs.State.{State, areaAt, threadAt, withArea, withRow, stackAt, innermost, isScope}
 use Rattle.model.specs.Scopes.{reentered, opened, enteredArea, pushed, enterState, enterValue}

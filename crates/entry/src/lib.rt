@@ -1,6 +1,6 @@
 // Op 04: an area is entered.
-use display::Depth;
-use layout::stack::Answer;
+use layout::display::Depth;
+use layout::answer::Answer;
 use layout::stack::Place;
 use model::Area;
 use rights::Right;
@@ -9,7 +9,7 @@ use tables::Words;
 ghost use mathlib.Core.Path.{_≡_};
 ghost use Prim.Native.Nat.{_<_, _≤_};
 ghost use Rattle.layout.specs.Choice.{pick};
-ghost use Rattle.display.specs.Display.{extendedRow};
+ghost use Rattle.layout.specs.Display.{extendedRow};
 ghost use Rattle.model.specs.State.{isScope, threadAt, areaAt, stackAt, innermost};
 ghost use Rattle.model.specs.Scopes.{lastGeneration, reentered, opened, enteredArea, enterState, enterValue, enterChange};
 ghost use Rattle.model.specs.Calls as calls;
@@ -96,7 +96,7 @@ fn put_display(bytes: &mut Bytes, q: usize, p: usize, depth: Depth)
     ensures { λ u. ⌜ now (bytes .exit) ≡ putRow (now (bytes .entry)) q (extendedRow (rowOf (now (bytes .entry)) p) (depth .0) q) ⌝ }
 {
     let row = rows::row_at(bytes, p);
-    rows::put_row(bytes, q, display::extended(row, depth, q as u8));
+    rows::put_row(bytes, q, layout::display::extended(row, depth, q as u8));
 }
 
 // Area q is entered where p is the innermost scope; its generation after that. The area is written before

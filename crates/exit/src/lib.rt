@@ -1,5 +1,5 @@
 // Op 05: an area is left.
-use layout::stack::Answer;
+use layout::answer::Answer;
 use model::Area;
 use tables::Bytes;
 use tables::Words;

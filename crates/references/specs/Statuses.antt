@@ -10,7 +10,7 @@ use borrow.Author.Tests.{eqb-true, le-leb, lt-leb, lt-ltb, le-ltb, eq-eqb, ne-eq
 use Rattle.layout.specs.Choice.{refuse, cases, hit, skip}
 use Rattle.layout.specs.Handle.{null, areaOf}
 use Rattle.layout.specs.Header.{slotsOf}
-use Rattle.display.specs.Display.{rowHolds}
+use Rattle.layout.specs.Display.{rowHolds}
 use Rattle.rights.specs.declared.Right.the-variants.{Refer}
 use Rattle.model.specs.declared.Area.{Area}
 use Rattle.model.specs.State.{State, Memory, areaAt, displayHolds}

@@ -1,10 +1,10 @@
 // The displays in the tables: a row of 32 bytes for each area.
-use display::Depth;
-use display::Row;
+use layout::display::Depth;
+use layout::display::Row;
 use tables::Bytes;
 ghost use mathlib.Core.Path.{_≡_};
 ghost use Prim.Native.Nat.{_<_, _≤_};
-ghost use Rattle.display.specs.Display.{rowHolds};
+ghost use Rattle.layout.specs.Display.{rowHolds};
 ghost use Rattle.tables.specs.Decode.{rowOf, putRow};
 
 // The display of an area, by value.
@@ -41,5 +41,5 @@ pub fn row_holds(bytes: &Bytes, b: usize, depth: Depth, area: u8) -> bool
 {
     let at = 1024 + b * 32;
     let all = &bytes[..];
-    display::holds(&all[at..at + 32], depth, area)
+    layout::display::holds(&all[at..at + 32], depth, area)
 }

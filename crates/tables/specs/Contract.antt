@@ -7,7 +7,7 @@ use lib.Dec.{eqb}
 use denote.Ref.{RefT, now}
 use denote.Triple.Both.{Both}
 use Rattle.layout.specs.Choice.{pick}
-use Rattle.layout.specs.declared.stack.Answer.{Answer}
+use Rattle.layout.specs.declared.answer.Answer.{Answer}
 use Rattle.model.specs.State.{State, Memory}
 use Rattle.model.specs.Checks.{Change}
 use Rattle.model.specs.Calls.{Call, Reply, outcomeOf}

@@ -1,6 +1,6 @@
 // Ops 01 and 02: threads start and end.
 use crate::caller;
-use layout::stack::Answer;
+use layout::answer::Answer;
 use tables::Bytes;
 use tables::Words;
 ghost use mathlib.Core.Path.{_≡_};

@@ -10,7 +10,7 @@ use lib.Dec.{ltb}
 use lib.ListN.{take, drop}
 use lib.Seq.{getD-take, getD-drop}
 use Rattle.layout.specs.Choice.{cases}
-use Rattle.display.specs.Display.{rowHolds}
+use Rattle.layout.specs.Display.{rowHolds}
 use Rattle.tables.specs.Cut.{getD-cut}
 use Rattle.tables.specs.Decode.{rowOf}
 use Rattle.rows.proofs.row_holds.Statement.{statement}
