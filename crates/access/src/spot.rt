@@ -28,7 +28,7 @@ fn may_use(words: &Words, bytes: &Bytes, t: usize, area: u64) -> bool
     requires { ⌜ t < 16 ⌝ }
     ensures { λ r. ⌜ r ≡ hasRight (stateOf (now (words .entry)) (now (bytes .entry))) t Use area ⌝ }
 {
-    let kind = stacks::kind_at(words, t);
+    let kind = tables::kind_at(words, t);
     rights::allowed_in(kind, area, Right::Use)
 }
 

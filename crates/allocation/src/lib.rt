@@ -77,7 +77,7 @@ fn check_allocate(
     if refusal != 0 {
         return refusal;
     }
-    let kind = stacks::kind_at(words, t as usize);
+    let kind = tables::kind_at(words, t as usize);
     let area = threads::current_area(words, bytes, t as usize);
     let may = rights::allowed_in(kind, area as u64, Right::Allocate);
     let x = tables::area_at(words, area as usize);

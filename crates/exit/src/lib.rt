@@ -9,7 +9,7 @@ ghost use Rattle.layout.specs.Choice.{pick};
 ghost use Rattle.model.specs.State.{isScope, areaAt, threadAt, withThread};
 ghost use Rattle.model.specs.Scopes.{exitStatus, left, leftArea, popped, exitState, exitValue};
 ghost use Rattle.model.specs.Calls as calls;
-ghost use Rattle.tables.specs.Decode.{stateOf, Sized, Holds};
+ghost use Rattle.tables.specs.Decode.{stateOf, Shaped, Holds};
 ghost use Rattle.tables.specs.Contract.{memoryOf, Ready, Done};
 
 fn check_exit(
@@ -26,7 +26,7 @@ fn check_exit(
     if refusal != 0 {
         return refusal;
     }
-    if stacks::len_at(words, t as usize) == 0 {
+    if tables::len_at(words, t as usize) == 0 {
         return 11;
     }
     0
@@ -55,7 +55,7 @@ fn left_area(x: Area) -> Area
 
 // Area q is left; the count that is left of a scope, else 0.
 fn leave_area(words: &mut Words, bytes: &Bytes, q: usize) -> u64
-    requires { ⌜ Sized (now words) (now bytes) × (q < 64) × (2 ≤ q → 0 < areaAt (stateOf (now words) (now bytes)) q .count) ⌝ }
+    requires { ⌜ Shaped (now words) (now bytes) × (q < 64) × (2 ≤ q → 0 < areaAt (stateOf (now words) (now bytes)) q .count) ⌝ }
     ensures { λ r. ⌜ r ≡ pick (isScope q) (pred (areaAt (stateOf (now (words .entry)) (now (bytes .entry))) q .count)) 0 ⌝ }
     ensures { λ r. ⌜ Holds (now (words .exit)) (now (bytes .entry)) (leftArea (stateOf (now (words .entry)) (now (bytes .entry))) q) ⌝ }
 {
@@ -69,11 +69,11 @@ fn leave_area(words: &mut Words, bytes: &Bytes, q: usize) -> u64
 
 // The top entry is taken off.
 fn pop(words: &mut Words, bytes: &Bytes, t: usize)
-    requires { ⌜ Sized (now words) (now bytes) × (t < 16) × (0 < threadAt (stateOf (now words) (now bytes)) t .len) ⌝ }
+    requires { ⌜ Shaped (now words) (now bytes) × (t < 16) × (0 < threadAt (stateOf (now words) (now bytes)) t .len) ⌝ }
     ensures { λ u. ⌜ Holds (now (words .exit)) (now (bytes .entry)) (withThread (stateOf (now (words .entry)) (now (bytes .entry))) t (popped (threadAt (stateOf (now (words .entry)) (now (bytes .entry))) t))) ⌝ }
 {
-    let len = stacks::len_at(words, t);
-    stacks::put_len(words, t, len - 1);
+    let len = tables::len_at(words, t);
+    tables::put_len(words, t, len - 1);
 }
 
 fn apply_exit(words: &mut Words, bytes: &Bytes, t: usize) -> u64

@@ -9,7 +9,7 @@ use Rattle.layout.specs.declared.stack.Answer.{Answer}
 use Rattle.model.specs.State.{State, Memory}
 use Rattle.model.specs.Calls.{Call, Reply, Outcome, outcomeOf}
 use Rattle.model.specs.Invariant.{Good}
-use Rattle.tables.specs.Decode.{stateOf, Sized, Holds}
+use Rattle.tables.specs.Decode.{stateOf, Shaped, Holds}
 
 -- the three lent buffers
 abbrev pub memoryOf : List ℕ → List ℕ → List ℕ → Memory
@@ -17,7 +17,7 @@ memoryOf p s m = record { permanent = p; scratch = s; map = m }
 
 -- what set-up and every call leave, and all that a call asks: the tables hold a state of the invariant
 pub record Ready (w b : List ℕ) : Type 0 where
-  pub sized : Sized w b
+  pub sized : Shaped w b
   pub good : Good (stateOf w b)
 
 -- a call's answer and the tables that it leaves are those of the definition, and it leaves what the next call asks

@@ -13,12 +13,12 @@ use Rattle.layout.specs.Choice.{refuse}
 use Rattle.model.specs.declared.Lengths.{Lengths}
 use Rattle.model.specs.State.{State, Memory, threadAt}
 use Rattle.model.specs.Checks.{fits, admit}
-use Rattle.tables.specs.Decode.{stateOf, lengthsOf}
+use Rattle.tables.specs.Decode.{stateOf, lengthsRecord}
 use Rattle.tables.specs.Laws.{lengths-read}
 
 -- ---- the three lengths, where o are those of set-up
 
-module _ (w b : List ℕ) (m : Memory) (o : Lengths) (e : o ≡ lengthsOf w) where
+module _ (w b : List ℕ) (m : Memory) (o : Lengths) (e : o ≡ lengthsRecord w) where
   own : stateOf w b .lengths ≡ o
   own = lengths-read w b ∙ sym e
 

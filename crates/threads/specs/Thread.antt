@@ -12,7 +12,7 @@ use Rattle.model.specs.State.{State, Memory, threadAt}
 use Rattle.model.specs.Checks.{fits, admit}
 use Rattle.model.specs.Threads.{startStatus, startState, endStatus, endState}
 use Rattle.model.proofs.Accepted.{Admitted, start-ok, end-ok}
-use Rattle.tables.specs.Decode.{stateOf, putKind, Sized, Holds}
+use Rattle.tables.specs.Decode.{stateOf, putKind, Shaped, Holds}
 use Rattle.tables.specs.Laws.{state-kind}
 use Rattle.threads.specs.Outcomes.{caller-refused, admit-rest}
 
@@ -74,7 +74,7 @@ module _ (s : State) (m : Memory) (t : ℕ) where
 
 -- ---- what is left
 
-module _ (w b : List ℕ) (z : Sized w b) (t : ℕ) (h : t < 16) where
+module _ (w b : List ℕ) (z : Shaped w b) (t : ℕ) (h : t < 16) where
   pub kind-started : (p : ℕ) → Holds (putKind w t p) b (startState (stateOf w b) t p)
   unfolding startState
   kind-started p = state-kind w b t p h z

@@ -29,7 +29,7 @@ fn check_start(
     if 16 <= t {
         return 2;
     }
-    if stacks::kind_at(words, t as usize) != 0 {
+    if tables::kind_at(words, t as usize) != 0 {
         return 3;
     }
     if kind == 0 {
@@ -55,7 +55,7 @@ pub fn start(
 {
     let status = check_start(words, bytes, permanent, scratch, map, t, kind);
     if status == 0 {
-        stacks::put_kind(words, t as usize, kind);
+        tables::put_kind(words, t as usize, kind);
     }
     Answer { status, value: 0 }
 }
@@ -76,7 +76,7 @@ fn check_end(
     if refusal != 0 {
         return refusal;
     }
-    if 0 < stacks::len_at(words, t as usize) {
+    if 0 < tables::len_at(words, t as usize) {
         return 11;
     }
     0
@@ -95,7 +95,7 @@ pub fn end(
 {
     let refusal = check_end(words, bytes, permanent, scratch, map, t);
     if refusal == 0 {
-        stacks::put_kind(words, t as usize, 0);
+        tables::put_kind(words, t as usize, 0);
     }
     Answer {
         status: refusal,
