@@ -6,6 +6,7 @@ use mathlib.Core.List.{List}
 use mathlib.Core.Logic.{_≢_}
 use mathlib.Core.Path.{_≡_, refl, sym, ap, _∙_}
 use native.Mathlib.Omega.{arith}
+use denote.Ref.{now}
 use lib.Dec.{leb, ltb}
 use lib.ListN.{length}
 use borrow.Author.Tests.{lt-ltb, le-ltb, leb-true, leb-false}
@@ -14,14 +15,14 @@ use Rattle.layout.specs.Handle.{handleOf}
 use Rattle.rights.specs.declared.Right.the-variants.{Allocate}
 use Rattle.model.specs.declared.Area.{Area}
 use Rattle.model.specs.State.{State, Memory, areaAt, isScope, storeOf, bitIndex}
-use Rattle.model.specs.Checks.{admit, hasRight}
-use Rattle.model.specs.Objects.{currentAt, allocateStatus, allocateState, allocateMemory, allocateValue, objectWords, objectBits, grown}
+use Rattle.model.specs.Checks.{fits, called, hasRight}
+use Rattle.model.specs.Objects.{currentAt, allocateRest, allocateState, allocateMemory, allocateValue, objectWords, objectBits, grown}
 use Rattle.model.specs.Invariant.{Good}
-use Rattle.model.proofs.Accepted.{Admitted, AllocateOk}
+use Rattle.model.proofs.Accepted.{Called, AllocateOk}
 use Rattle.tables.specs.Decode.{stateOf, putArea, Holds}
 use Rattle.tables.specs.Laws.{state-area}
-use Rattle.tables.specs.Contract.{Ready, memoryOf}
-use Rattle.threads.specs.Outcomes.{caller-refused, admit-rest}
+use Rattle.tables.specs.Contract.{Borrowed, before, supplied, returned, Ready, memoryOf}
+use Rattle.threads.specs.Caller.{thread-refused, called-rest}
 use Rattle.model.proofs.PlacedWords.{supplied-lengths}
 use Rattle.objects.specs.Places.{Within, within}
 use Rattle.objects.specs.Stores.{Stored, stored-memory}
@@ -33,31 +34,36 @@ pub record Allocated (value : ℕ) (w b : List ℕ) (x : Memory) (s : State) (m 
   pub holds : Holds w b (allocateState s (currentAt s t) slots words)
   pub memory-is : x ≡ allocateMemory s m (currentAt s t) slots words
 
+-- the same over what a function is lent
+abbrev pub Allocates : ℕ → Borrowed → Borrowed → Borrowed → Borrowed → Borrowed → ℕ → ℕ → ℕ → Type 0
+Allocates value words bytes permanent scratch map t slots count =
+    Allocated value (now (words .exit)) (now (bytes .exit)) (returned permanent scratch map) (before words bytes) (supplied permanent scratch map) t slots count
+
 -- ---- the checks
 
-module _ (s : State) (m : Memory) (t slots words : ℕ) where
-  pub allocate-not-called : {n : ℕ} → n ≡ admit s m t 0 → n ≢ 0 → n ≡ allocateStatus s m t slots words
-  unfolding allocateStatus
-  allocate-not-called e h = caller-refused s m t e h _
+module _ (s : State) (t slots words : ℕ) where
+  pub allocate-not-called : {n : ℕ} → n ≡ called s t 0 → n ≢ 0 → n ≡ allocateRest s t slots words
+  unfolding allocateRest
+  allocate-not-called e h = thread-refused s t e h _
 
-  module _ (a : Admitted s m t) where
-    pub allocate-no-right : hasRight s t Allocate (currentAt s t) ≡ false → 5 ≡ allocateStatus s m t slots words
-    unfolding allocateStatus
-    allocate-no-right e = sym (admit-rest s m t a _ ∙ hit (not (hasRight s t Allocate (currentAt s t))) 5 _ (ap not e))
+  module _ (a : Called s t) where
+    pub allocate-no-right : hasRight s t Allocate (currentAt s t) ≡ false → 5 ≡ allocateRest s t slots words
+    unfolding allocateRest
+    allocate-no-right e = sym (called-rest s t a _ ∙ hit (not (hasRight s t Allocate (currentAt s t))) 5 _ (ap not e))
 
     -- x is the record of the current area
     module _ (r : hasRight s t Allocate (currentAt s t) ≡ true) (x : Area) (e : x ≡ areaAt s (currentAt s t)) where
-      pub allocate-no-room : x .size < suc (x .used + slots + words) → 12 ≡ allocateStatus s m t slots words
-      unfolding allocateStatus
+      pub allocate-no-room : x .size < suc (x .used + slots + words) → 12 ≡ allocateRest s t slots words
+      unfolding allocateRest
       allocate-no-room h = sym (
-          admit-rest s m t a _
+          called-rest s t a _
           ∙ skip (not (hasRight s t Allocate (currentAt s t))) 5 _ (ap not r)
           ∙ rw (← e) (hit (ltb (x .size) (suc (x .used + slots + words))) 12 0 (lt-ltb (x .size) (suc (x .used + slots + words)) h)))
 
-      pub allocate-room : suc (x .used + slots + words) ≤ x .size → 0 ≡ allocateStatus s m t slots words
-      unfolding allocateStatus
+      pub allocate-room : suc (x .used + slots + words) ≤ x .size → 0 ≡ allocateRest s t slots words
+      unfolding allocateRest
       allocate-room h = sym (
-          admit-rest s m t a _
+          called-rest s t a _
           ∙ skip (not (hasRight s t Allocate (currentAt s t))) 5 _ (ap not r)
           ∙ rw (← e) (skip (ltb (x .size) (suc (x .used + slots + words))) 12 0 (le-ltb (x .size) (suc (x .used + slots + words)) h)))
 
@@ -70,7 +76,7 @@ generation-low s g a k =
     (λ e. omega (arith, g .scopes a (leb-true 2 a e) k .generation))
     (λ e. omega (arith, g .standing a (leb-false 2 a e) .generation))
 
-module _ (w b : List ℕ) (m : Memory) (t slots words : ℕ) (r : Ready w b) (k : AllocateOk (stateOf w b) m t slots words)
+module _ (w b : List ℕ) (m : Memory) (t slots words : ℕ) (r : Ready w b) (f : fits (stateOf w b) m ≡ true) (k : AllocateOk (stateOf w b) t slots words)
     (a : ℕ) (ea : a ≡ currentAt (stateOf w b) t) where
   pub area-low : a < 64
   area-low = rw ea (current-area (stateOf w b) (r .good) t (k .called .thread))
@@ -80,7 +86,7 @@ module _ (w b : List ℕ) (m : Memory) (t slots words : ℕ) (r : Ready w b) (k 
     room = rw (ex, ea) (k .room)
 
     in-area : Within (stateOf w b) m a
-    in-area = within (stateOf w b) m (r .good) (k .called .supplied) a area-low
+    in-area = within (stateOf w b) m (r .good) f a area-low
 
     start-is : x .start ≡ areaAt (stateOf w b) a .start
     start-is = ap (λ (y : Area). y .start) ex
@@ -95,18 +101,18 @@ module _ (w b : List ℕ) (m : Memory) (t slots words : ℕ) (r : Ready w b) (k 
     words-in = omega (arith, room, in-area .words, start-is, size-is)
 
     pub bit-sum : length (m .permanent) + (x .start + x .used) < 65536
-    bit-sum = omega (arith, words-low, in-area .first, supplied-lengths (stateOf w b) m (k .called .supplied) .permanent)
+    bit-sum = omega (arith, words-low, in-area .first, supplied-lengths (stateOf w b) m f .permanent)
 
     module _ (i : ℕ) (ei : i ≡ pick (isScope a) (length (m .permanent)) 0 + (x .start + x .used)) where
       first-is : i ≡ pick (isScope a) (stateOf w b .lengths .permanent) 0 + (x .start + x .used)
-      first-is = ei ∙ rw (supplied-lengths (stateOf w b) m (k .called .supplied) .permanent) refl
+      first-is = ei ∙ rw (supplied-lengths (stateOf w b) m f .permanent) refl
 
       pub bits-in : i + 1 + (slots + words) ≤ 64 * length (m .map)
       bits-in = omega (arith, first-is, room, in-area .bits, start-is, size-is)
 
       pub bits-low : i + 1 + (slots + words) ≤ 32768
       bits-low = cases (leb 2 a)
-          (λ e. omega (arith, (rw e at ei), words-low, in-area .first, supplied-lengths (stateOf w b) m (k .called .supplied) .permanent))
+          (λ e. omega (arith, (rw e at ei), words-low, in-area .first, supplied-lengths (stateOf w b) m f .permanent))
           (λ e. omega (arith, (rw e at ei), words-low))
 
       index-is : i ≡ bitIndex (stateOf w b) a (areaAt (stateOf w b) a .used)
@@ -117,13 +123,13 @@ module _ (w b : List ℕ) (m : Memory) (t slots words : ℕ) (r : Ready w b) (k 
           → v ≡ handleOf (x .used % 16384) (a % 64) (x .generation % 2 ^ 44)
           → Allocated v (putArea w a (grown x (x .used + 1 + slots + words))) b (memoryOf p′ s′ m′) (stateOf w b) m t slots words
       unfolding allocateValue allocateState allocateMemory
-      allocated {m′ = m′} e z f =
+      allocated {m′ = m′} e z v =
           let u : x .used + 1 + slots + words ≡ suc (x .used + slots + words) = omega arith in
           let o : x .used % 16384 ≡ x .used = omega (arith, words-low) in
           let c : a % 64 ≡ a = omega (arith, area-low) in
           let g : x .generation % 2 ^ 44 ≡ x .generation = omega (arith, generation-low (stateOf w b) (r .good) a area-low, ap (λ (y : Area). y .generation) ex) in
           record {
-            value-is = f ∙ rw (o, c, g, ← ea, ex) refl;
+            value-is = v ∙ rw (o, c, g, ← ea, ex) refl;
             holds = rw (u, ← ea, ex) (state-area w b a _ area-low (r .sized));
             memory-is = stored-memory z m′ ∙ rw (e, index-is, ← ea, ex) refl;
           }

@@ -8,14 +8,12 @@ use tables::Words;
 ghost use mathlib.Core.Path.{_≡_};
 ghost use Prim.Native.Nat.{_+_, _*_, _≤_};
 ghost use lib.ListN.{length};
-ghost use Rattle.layout.specs.Choice.{pick};
-ghost use Rattle.model.specs.State.{isScope};
-ghost use Rattle.model.specs.Objects.{objectWords, objectBits, allocateStatus};
+ghost use Rattle.model.specs.Objects.{objectWords, objectBits, allocateRest};
 ghost use Rattle.model.specs.Calls as calls;
-ghost use Rattle.tables.specs.Decode.{stateOf};
-ghost use Rattle.tables.specs.Contract.{memoryOf, Ready, Done, Written};
-ghost use Rattle.objects.specs.Stores.{Stored};
-ghost use Rattle.allocation.specs.Allocation.{Allocated};
+ghost use Rattle.tables.specs.Contract.{stateIn, before, Usable, Answers};
+ghost use Rattle.objects.specs.Stores.{storeIn, Stores};
+ghost use Rattle.objects.specs.Resolving.{Fitting};
+ghost use Rattle.allocation.specs.Allocation.{Allocates};
 
 // The words of an object of a store: its header, and 0 in its slots and its data.
 fn write_object(store: &mut [u64], at: usize, slots: u64, words: u64)
@@ -41,7 +39,7 @@ fn mark_object(map: &mut [u64], bit: usize, n: usize)
 }
 
 // The words of an object in the store that has an area's words.
-fn lay_object(
+fn put_object(
     permanent: &mut [u64],
     scratch: &mut [u64],
     area: u64,
@@ -49,8 +47,8 @@ fn lay_object(
     slots: u64,
     words: u64,
 )
-    requires { ⌜ (at + 1 + slots + words ≤ length (pick (isScope area) (now scratch) (now permanent))) × (at + 1 + slots + words ≤ 16384) ⌝ }
-    ensures { λ r. ⌜ Stored (now (permanent .exit)) (now (scratch .exit)) (now (permanent .entry)) (now (scratch .entry)) area (objectWords (pick (isScope area) (now (scratch .entry)) (now (permanent .entry))) at slots words) ⌝ }
+    requires { ⌜ (at + 1 + slots + words ≤ length (storeIn permanent scratch area)) × (at + 1 + slots + words ≤ 16384) ⌝ }
+    ensures { λ r. ⌜ Stores permanent scratch area (λ l. objectWords l at slots words) ⌝ }
 {
     if area < 2 {
         write_object(permanent, at, slots, words);
@@ -59,27 +57,17 @@ fn lay_object(
     write_object(scratch, at, slots, words);
 }
 
-// Refusals 1, 2, 5 and 12. No sum of the fields is taken, so none can wrap.
-fn check_allocate(
-    words: &Words,
-    bytes: &Bytes,
-    permanent: &[u64],
-    scratch: &[u64],
-    map: &[u64],
-    t: u64,
-    slots: u64,
-    data_words: u64,
-) -> u64
-    requires { ⌜ Ready (now words) (now bytes) ⌝ }
-    ensures { λ r. ⌜ r ≡ allocateStatus (stateOf (now (words .entry)) (now (bytes .entry))) (memoryOf (now (permanent .entry)) (now (scratch .entry)) (now (map .entry))) t slots data_words ⌝ }
+// Refusals 2, 5 and 12. No sum of the fields is taken, so none can wrap.
+fn check_allocate(words: &Words, bytes: &Bytes, t: u64, slots: u64, data_words: u64) -> u64
+    requires { ⌜ Usable words bytes ⌝ }
+    ensures { λ r. ⌜ r ≡ allocateRest (before words bytes) t slots data_words ⌝ }
 {
-    let refusal = threads::check_caller(words, bytes, permanent, scratch, map, t);
+    let refusal = threads::check_thread(words, bytes, t);
     if refusal != 0 {
         return refusal;
     }
-    let kind = tables::kind_at(words, t as usize);
     let area = threads::current_area(words, bytes, t as usize);
-    let may = rights::allowed_in(kind, area as u64, Right::Allocate);
+    let may = threads::has_right(words, bytes, t as usize, Right::Allocate, area as u64);
     let x = tables::area_at(words, area as usize);
     let room = x.size - x.used;
     if !may {
@@ -107,8 +95,8 @@ fn apply_allocate(
     slots: u64,
     data_words: u64,
 ) -> u64
-    requires { ⌜ Ready (now words) (now bytes) × (allocateStatus (stateOf (now words) (now bytes)) (memoryOf (now permanent) (now scratch) (now map)) t slots data_words ≡ 0) ⌝ }
-    ensures { λ r. ⌜ Allocated r (now (words .exit)) (now (bytes .entry)) (memoryOf (now (permanent .exit)) (now (scratch .exit)) (now (map .exit))) (stateOf (now (words .entry)) (now (bytes .entry))) (memoryOf (now (permanent .entry)) (now (scratch .entry)) (now (map .entry))) t slots data_words ⌝ }
+    requires { ⌜ Fitting words bytes permanent scratch map × (allocateRest (stateIn words bytes) t slots data_words ≡ 0) ⌝ }
+    ensures { λ r. ⌜ Allocates r words bytes permanent scratch map t slots data_words ⌝ }
 {
     let area = threads::current_area(words, bytes, t) as u64;
     let x = tables::area_at(words, area as usize);
@@ -126,7 +114,7 @@ fn apply_allocate(
     let at = (x.start + x.used) as usize;
     let bit = objects::bit_index(permanent.len(), area, at);
     mark_object(map, bit, (slots + data_words) as usize);
-    lay_object(permanent, scratch, area, at, slots, data_words);
+    put_object(permanent, scratch, area, at, slots, data_words);
     handle::pack(x.used, area, x.generation)
 }
 
@@ -141,11 +129,17 @@ pub fn allocate(
     slots: u64,
     data_words: u64,
 ) -> Answer
-    requires { ⌜ Ready (now words) (now bytes) ⌝ }
-    ensures { λ r. ⌜ Done (r .status) (r .value) (now (words .exit)) (now (bytes .entry)) (calls.outcomeOf (stateOf (now (words .entry)) (now (bytes .entry))) (memoryOf (now (permanent .entry)) (now (scratch .entry)) (now (map .entry))) (calls.allocate t slots data_words)) ⌝ }
-    ensures { λ r. ⌜ Written (now (permanent .exit)) (now (scratch .exit)) (now (map .exit)) (calls.outcomeOf (stateOf (now (words .entry)) (now (bytes .entry))) (memoryOf (now (permanent .entry)) (now (scratch .entry)) (now (map .entry))) (calls.allocate t slots data_words)) ⌝ }
+    requires { ⌜ Usable words bytes ⌝ }
+    ensures { λ r. ⌜ Answers r words bytes permanent scratch map (calls.allocate t slots data_words) ⌝ }
 {
-    let status = check_allocate(words, bytes, permanent, scratch, map, t, slots, data_words);
+    let fit = threads::lengths_fit(words, bytes, permanent, scratch, map);
+    if !fit {
+        return Answer {
+            status: 1,
+            value: 0,
+        };
+    }
+    let status = check_allocate(words, bytes, t, slots, data_words);
     if status != 0 {
         return Answer { status, value: 0 };
     }

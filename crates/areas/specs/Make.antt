@@ -11,23 +11,23 @@ use borrow.Author.Tests.{le-leb, lt-leb, lt-ltb, le-ltb}
 use Rattle.layout.specs.Choice.{refuse}
 use Rattle.model.specs.declared.Area.{Area}
 use Rattle.model.specs.declared.Lengths.{Lengths}
-use Rattle.model.specs.State.{State, Memory, isMade, withArea, withTaken}
-use Rattle.model.specs.Checks.{admit}
-use Rattle.model.specs.Scopes.{makeStatus, madeArea, makeState}
-use Rattle.model.proofs.Accepted.{Admitted, MakeOk, make-ok}
+use Rattle.model.specs.State.{State, madeAs, isMade, withArea, withTaken}
+use Rattle.model.specs.Checks.{called}
+use Rattle.model.specs.Scopes.{makeRest, madeArea, makeState}
+use Rattle.model.proofs.Accepted.{Called, MakeOk, make-ok}
 use Rattle.tables.specs.Decode.{stateOf, areaRecord, putArea, lengthsRecord, takenOf, putTaken, Shaped, Holds}
 use Rattle.tables.specs.Contract.{Ready}
 use Rattle.tables.specs.Laws.{area-read, lengths-read, taken-read, state-area, state-taken}
-use Rattle.threads.specs.Outcomes.{caller-refused, admit-rest}
+use Rattle.threads.specs.Caller.{thread-refused, called-rest}
 
 -- the words tell whether an area is made
-made-read : (w b : List ℕ) (q : ℕ) → q < 64 → isMade (stateOf w b) q ≡ ltb q 2 || ltb 0 (areaRecord w q .size)
+made-read : (w b : List ℕ) (q : ℕ) → q < 64 → isMade (stateOf w b) q ≡ madeAs (areaRecord w q) q
 unfolding isMade
-made-read w b q h = ap (λ (x : Area). ltb q 2 || ltb 0 (x .size)) (area-read w b q h)
+made-read w b q h = ap (λ (x : Area). madeAs x q) (area-read w b q h)
 
 -- an area of the words is made, where r says so of its record x
-pub made-is : (w b : List ℕ) (q : ℕ) → q < 64 → {r : Bool} {x : Area} → r ≡ ltb q 2 || ltb 0 (x .size) → x ≡ areaRecord w q → isMade (stateOf w b) q ≡ r
-made-is w b q h e f = made-read w b q h ∙ sym (e ∙ ap (λ (x : Area). ltb q 2 || ltb 0 (x .size)) f)
+pub made-is : (w b : List ℕ) (q : ℕ) → q < 64 → {r : Bool} {x : Area} → r ≡ madeAs x q → x ≡ areaRecord w q → isMade (stateOf w b) q ≡ r
+made-is w b q h e f = made-read w b q h ∙ sym (e ∙ ap (λ (x : Area). madeAs x q) f)
 
 -- the scratch words that are not taken, where n and l are what the code reads
 module _ (w b : List ℕ) {n : ℕ} {l : Lengths} (e : n ≡ takenOf w) (f : l ≡ lengthsRecord w) where
@@ -38,42 +38,42 @@ module _ (w b : List ℕ) {n : ℕ} {l : Lengths} (e : n ≡ takenOf w) (f : l �
   taken-bound r = omega (arith, r .good .placed .taken, ap (λ (x : Lengths). x .scratch) (lengths-read w b ∙ sym f), taken-read w b)
 
   -- and z what it says of them
-  pub lacks-is : (r : ℕ) {z : Bool} → z ≡ eqb r 0 || ltb (l .scratch - n) r → eqb r 0 || ltb (stateOf w b .lengths .scratch - stateOf w b .taken) r ≡ z
-  lacks-is r h = rw scratch-left (sym h)
+  pub room-is : (r : ℕ) {z : Bool} → z ≡ eqb r 0 || ltb (l .scratch - n) r → eqb r 0 || ltb (stateOf w b .lengths .scratch - stateOf w b .taken) r ≡ z
+  room-is r h = rw scratch-left (sym h)
 
 -- the chain of an op 03, over the tests' numbers
-module _ (s : State) (m : Memory) (t q r : ℕ) where
-  pub make-not-called : {n : ℕ} → n ≡ admit s m t 0 → n ≢ 0 → n ≡ makeStatus s m t q r
-  unfolding makeStatus
-  make-not-called e h = caller-refused s m t e h _
+module _ (s : State) (t q r : ℕ) where
+  pub make-not-called : {n : ℕ} → n ≡ called s t 0 → n ≢ 0 → n ≡ makeRest s t q r
+  unfolding makeRest
+  make-not-called e h = thread-refused s t e h _
 
-  module _ (a : Admitted s m t) where
-    pub make-low : q < 2 → 6 ≡ makeStatus s m t q r
-    unfolding makeStatus refuse
-    make-low h = sym (admit-rest s m t a _ ∙ rw (lt-ltb q 2 h))
+  module _ (a : Called s t) where
+    pub make-low : q < 2 → 6 ≡ makeRest s t q r
+    unfolding makeRest refuse
+    make-low h = sym (called-rest s t a _ ∙ rw (lt-ltb q 2 h))
 
     module _ (k : 2 ≤ q) where
-      pub make-high : 64 ≤ q → 6 ≡ makeStatus s m t q r
-      unfolding makeStatus refuse
-      make-high h = sym (admit-rest s m t a _ ∙ rw (le-ltb q 2 k, le-leb 64 q h))
+      pub make-high : 64 ≤ q → 6 ≡ makeRest s t q r
+      unfolding makeRest refuse
+      make-high h = sym (called-rest s t a _ ∙ rw (le-ltb q 2 k, le-leb 64 q h))
 
       module _ (l : q < 64) where
-        pub make-made : isMade s q ≡ true → 7 ≡ makeStatus s m t q r
-        unfolding makeStatus refuse
-        make-made h = sym (admit-rest s m t a _ ∙ rw (le-ltb q 2 k, lt-leb 64 q l, h))
+        pub make-made : isMade s q ≡ true → 7 ≡ makeRest s t q r
+        unfolding makeRest refuse
+        make-made h = sym (called-rest s t a _ ∙ rw (le-ltb q 2 k, lt-leb 64 q l, h))
 
         module _ (f : isMade s q ≡ false) where
-          pub make-lacking : eqb r 0 || ltb (s .lengths .scratch - s .taken) r ≡ true → 8 ≡ makeStatus s m t q r
-          unfolding makeStatus refuse
-          make-lacking h = sym (admit-rest s m t a _ ∙ rw (le-ltb q 2 k, lt-leb 64 q l, f, h))
+          pub make-lacking : eqb r 0 || ltb (s .lengths .scratch - s .taken) r ≡ true → 8 ≡ makeRest s t q r
+          unfolding makeRest refuse
+          make-lacking h = sym (called-rest s t a _ ∙ rw (le-ltb q 2 k, lt-leb 64 q l, f, h))
 
-          pub make-accepted : eqb r 0 || ltb (s .lengths .scratch - s .taken) r ≡ false → 0 ≡ makeStatus s m t q r
-          unfolding makeStatus refuse
-          make-accepted h = sym (admit-rest s m t a _ ∙ rw (le-ltb q 2 k, lt-leb 64 q l, f, h))
+          pub make-accepted : eqb r 0 || ltb (s .lengths .scratch - s .taken) r ≡ false → 0 ≡ makeRest s t q r
+          unfolding makeRest refuse
+          make-accepted h = sym (called-rest s t a _ ∙ rw (le-ltb q 2 k, lt-leb 64 q l, f, h))
 
   -- n is what check_make answers
-  pub make-passed : {n : ℕ} → n ≡ makeStatus s m t q r → n ≡ 0 → MakeOk s m t q r
-  make-passed e z = make-ok s m t q r (sym e ∙ z)
+  pub make-passed : {n : ℕ} → n ≡ makeRest s t q r → n ≡ 0 → MakeOk s t q r
+  make-passed e z = make-ok s t q r (sym e ∙ z)
 
 -- ---- what is left
 

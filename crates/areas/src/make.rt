@@ -7,23 +7,12 @@ ghost use mathlib.Core.Path.{_≡_};
 ghost use mathlib.Core.Bool.{_||_};
 ghost use Prim.Native.Nat.{_+_, _<_, _≤_};
 ghost use lib.Dec.{eqb, ltb};
-ghost use Rattle.model.specs.Scopes.{makeStatus, madeArea, makeState};
+ghost use Rattle.model.specs.Scopes.{makeRest, madeArea, makeState, makeChange};
 ghost use Rattle.model.specs.Calls as calls;
-ghost use Rattle.tables.specs.Decode.{stateOf, Holds};
-ghost use Rattle.tables.specs.Contract.{memoryOf, Ready, Done};
-
-// Heap and immortal are always there; a scope that is made has a size above 0.
-pub fn is_made(x: Area, q: u64) -> bool
-    ensures { λ r. ⌜ r ≡ (ltb q 2 || ltb 0 (x .size)) ⌝ }
-{
-    if q < 2 {
-        return true;
-    }
-    0 < x.size
-}
+ghost use Rattle.tables.specs.Contract.{stateIn, before, Leaves, Usable, Changes, Answers};
 
 // Whether a size is 0, or above the scratch words that are left.
-fn lacks(left: u64, r: u64) -> bool
+fn no_room(left: u64, r: u64) -> bool
     ensures { λ n. ⌜ n ≡ (eqb r 0 || ltb left r) ⌝ }
 {
     if r == 0 {
@@ -32,20 +21,11 @@ fn lacks(left: u64, r: u64) -> bool
     left < r
 }
 
-fn check_make(
-    words: &Words,
-    bytes: &Bytes,
-    permanent: &[u64],
-    scratch: &[u64],
-    map: &[u64],
-    t: u64,
-    q: u64,
-    r: u64,
-) -> u64
-    requires { ⌜ Ready (now words) (now bytes) ⌝ }
-    ensures { λ n. ⌜ n ≡ makeStatus (stateOf (now (words .entry)) (now (bytes .entry))) (memoryOf (now (permanent .entry)) (now (scratch .entry)) (now (map .entry))) t q r ⌝ }
+fn check_make(words: &Words, bytes: &Bytes, t: u64, q: u64, r: u64) -> u64
+    requires { ⌜ Usable words bytes ⌝ }
+    ensures { λ n. ⌜ n ≡ makeRest (before words bytes) t q r ⌝ }
 {
-    let refusal = threads::check_caller(words, bytes, permanent, scratch, map, t);
+    let refusal = threads::check_thread(words, bytes, t);
     if refusal != 0 {
         return refusal;
     }
@@ -55,9 +35,9 @@ fn check_make(
     if 64 <= q {
         return 6;
     }
-    let made = is_made(tables::area_at(words, q as usize), q);
+    let made = tables::is_made(tables::area_at(words, q as usize), q);
     let left = tables::lengths_at(words).scratch - tables::taken_at(words);
-    let lacking = lacks(left, r);
+    let lacking = no_room(left, r);
     if made {
         return 7;
     }
@@ -79,13 +59,25 @@ fn made(x: Area, start: u64, size: u64) -> Area
 
 // Scope q takes the next r unused scratch words.
 fn apply_make(words: &mut Words, bytes: &Bytes, q: usize, r: u64)
-    requires { ⌜ Ready (now words) (now bytes) × (q < 64) × ((stateOf (now words) (now bytes)) .taken + r ≤ (stateOf (now words) (now bytes)) .lengths .scratch) ⌝ }
-    ensures { λ u. ⌜ Holds (now (words .exit)) (now (bytes .entry)) (makeState (stateOf (now (words .entry)) (now (bytes .entry))) q r) ⌝ }
+    requires { ⌜ Usable words bytes × (q < 64) × (stateIn words bytes .taken + r ≤ stateIn words bytes .lengths .scratch) ⌝ }
+    ensures { λ u. ⌜ Leaves words bytes (makeState (before words bytes) q r) ⌝ }
 {
     let taken = tables::taken_at(words);
     let x = tables::area_at(words, q);
     tables::put_area(words, q, made(x, taken, r));
     tables::put_taken(words, taken + r);
+}
+
+// After refusal 1.
+pub fn make_on(words: &mut Words, bytes: &Bytes, t: u64, q: u64, r: u64) -> Answer
+    requires { ⌜ Usable words bytes ⌝ }
+    ensures { λ a. ⌜ Changes a words bytes (makeChange (before words bytes) t q r) ⌝ }
+{
+    let status = check_make(words, bytes, t, q, r);
+    if status == 0 {
+        apply_make(words, bytes, q as usize, r);
+    }
+    Answer { status, value: 0 }
 }
 
 pub fn make(
@@ -98,12 +90,15 @@ pub fn make(
     q: u64,
     r: u64,
 ) -> Answer
-    requires { ⌜ Ready (now words) (now bytes) ⌝ }
-    ensures { λ a. ⌜ Done (a .status) (a .value) (now (words .exit)) (now (bytes .entry)) (calls.outcomeOf (stateOf (now (words .entry)) (now (bytes .entry))) (memoryOf (now (permanent .entry)) (now (scratch .entry)) (now (map .entry))) (calls.make t q r)) ⌝ }
+    requires { ⌜ Usable words bytes ⌝ }
+    ensures { λ a. ⌜ Answers a words bytes permanent scratch map (calls.make t q r) ⌝ }
 {
-    let status = check_make(words, bytes, permanent, scratch, map, t, q, r);
-    if status == 0 {
-        apply_make(words, bytes, q as usize, r);
+    let fit = threads::lengths_fit(words, bytes, permanent, scratch, map);
+    if !fit {
+        return Answer {
+            status: 1,
+            value: 0,
+        };
     }
-    Answer { status, value: 0 }
+    make_on(words, bytes, t, q, r)
 }

@@ -1,5 +1,4 @@
 // Op 04: an area is entered.
-use areas::make;
 use display::Depth;
 use layout::stack::Answer;
 use layout::stack::Place;
@@ -12,25 +11,25 @@ ghost use Prim.Native.Nat.{_<_, _≤_};
 ghost use Rattle.layout.specs.Choice.{pick};
 ghost use Rattle.display.specs.Display.{extendedRow};
 ghost use Rattle.model.specs.State.{isScope, threadAt, areaAt, stackAt, innermost};
-ghost use Rattle.model.specs.Scopes.{lastGeneration, reentered, opened, enteredArea, enterState, enterValue};
+ghost use Rattle.model.specs.Scopes.{lastGeneration, reentered, opened, enteredArea, enterState, enterValue, enterChange};
 ghost use Rattle.model.specs.Calls as calls;
-ghost use Rattle.tables.specs.Decode.{stateOf, displayRow, putRow, Shaped, Holds};
-ghost use Rattle.tables.specs.Contract.{memoryOf, Ready, Done};
-ghost use Rattle.entry.specs.Enter.{entryStatus, Openable, Enterable, pushedState};
+ghost use Rattle.tables.specs.Decode.{displayRow, putRow, Shaped};
+ghost use Rattle.tables.specs.Contract.{stateIn, before, Leaves, Usable, Changes, Answers};
+ghost use Rattle.entry.specs.Enter.{entryRest, thereRest, Openable, Enterable, pushedState};
 
 // The last generation of a scope, 2^44 - 1.
 const LAST_GENERATION: u64 = 17592186044415;
 
 // ---- the refusals
 
-// Those that speak of a thread and an area that are there.
-fn check_entry(kind: u64, len: u64, inner: u64, x: Area, q: u64) -> u64
-    ensures { λ n. ⌜ n ≡ entryStatus kind len inner x q ⌝ }
+// Those that speak of a thread and an area that are there: whether the thread has the right, how many
+// entries its stack has, its innermost scope, and the area.
+fn check_entry(allowed: bool, len: u64, inner: u64, x: Area, q: u64) -> u64
+    ensures { λ n. ⌜ n ≡ entryRest allowed len inner x q ⌝ }
 {
-    if !make::is_made(x, q) {
+    if !tables::is_made(x, q) {
         return 6;
     }
-    let allowed = rights::allowed_in(kind, q, Right::Enter);
     if !allowed {
         return 5;
     }
@@ -52,15 +51,15 @@ fn check_entry(kind: u64, len: u64, inner: u64, x: Area, q: u64) -> u64
     0
 }
 
-// The same, read from the tables; inner is the thread's innermost scope.
+// The same, read from the tables.
 fn check_there(words: &Words, bytes: &Bytes, t: usize, q: u64, inner: u8) -> u64
     requires { ⌜ (t < 16) × (q < 64) ⌝ }
-    ensures { λ n. ⌜ n ≡ entryStatus (threadAt (stateOf (now (words .entry)) (now (bytes .entry))) t .kind) (threadAt (stateOf (now (words .entry)) (now (bytes .entry))) t .len) inner (areaAt (stateOf (now (words .entry)) (now (bytes .entry))) q) q ⌝ }
+    ensures { λ n. ⌜ n ≡ thereRest (before words bytes) t q inner ⌝ }
 {
-    let kind = tables::kind_at(words, t);
+    let allowed = threads::has_right(words, bytes, t, Right::Enter, q);
     let len = tables::len_at(words, t);
     let x = tables::area_at(words, q as usize);
-    check_entry(kind, len, inner as u64, x, q)
+    check_entry(allowed, len, inner as u64, x, q)
 }
 
 // ---- the area
@@ -103,9 +102,9 @@ fn put_display(bytes: &mut Bytes, q: usize, p: usize, depth: Depth)
 // Area q is entered where p is the innermost scope; its generation after that. The area is written before
 // the display: the compiler then sees that its start and size are as they were read.
 fn enter_area(words: &mut Words, bytes: &mut Bytes, q: usize, p: usize) -> u64
-    requires { ⌜ Shaped (now words) (now bytes) × Openable (stateOf (now words) (now bytes)) q p ⌝ }
-    ensures { λ r. ⌜ r ≡ enterValue (stateOf (now (words .entry)) (now (bytes .entry))) q ⌝ }
-    ensures { λ r. ⌜ Holds (now (words .exit)) (now (bytes .exit)) (enteredArea (stateOf (now (words .entry)) (now (bytes .entry))) q p) ⌝ }
+    requires { ⌜ Shaped (now words) (now bytes) × Openable (stateIn words bytes) q p ⌝ }
+    ensures value { λ r. ⌜ r ≡ enterValue (before words bytes) q ⌝ }
+    ensures state { λ r. ⌜ Leaves words bytes (enteredArea (before words bytes) q p) ⌝ }
 {
     let x = tables::area_at(words, q);
     if q < 2 {
@@ -136,8 +135,8 @@ fn inner_after(q: u8, p: u8) -> u8
 
 // Area q goes on top of a stack, and beside it the innermost scope as of that entry.
 fn push(words: &mut Words, bytes: &mut Bytes, t: usize, q: u8, inner: u8)
-    requires { ⌜ Shaped (now words) (now bytes) × (t < 16) × (threadAt (stateOf (now words) (now bytes)) t .len < 32) ⌝ }
-    ensures { λ u. ⌜ Holds (now (words .exit)) (now (bytes .exit)) (pushedState (stateOf (now (words .entry)) (now (bytes .entry))) t q inner) ⌝ }
+    requires { ⌜ Shaped (now words) (now bytes) × (t < 16) × (threadAt (stateIn words bytes) t .len < 32) ⌝ }
+    ensures { λ u. ⌜ Leaves words bytes (pushedState (before words bytes) t q inner) ⌝ }
 {
     let len = tables::len_at(words, t) as usize;
     let top = Place(len);
@@ -150,30 +149,22 @@ fn push(words: &mut Words, bytes: &mut Bytes, t: usize, q: u8, inner: u8)
 
 // The effect of an accepted entry, below the innermost scope.
 fn apply_enter(words: &mut Words, bytes: &mut Bytes, t: usize, q: usize, inner: u8) -> u64
-    requires { ⌜ Ready (now words) (now bytes) × Enterable (stateOf (now words) (now bytes)) t q × (inner ≡ innermost (stackAt (stateOf (now words) (now bytes)) t)) ⌝ }
-    ensures { λ r. ⌜ r ≡ enterValue (stateOf (now (words .entry)) (now (bytes .entry))) q ⌝ }
-    ensures { λ r. ⌜ Holds (now (words .exit)) (now (bytes .exit)) (enterState (stateOf (now (words .entry)) (now (bytes .entry))) t q) ⌝ }
+    requires { ⌜ Usable words bytes × Enterable (stateIn words bytes) t q × (inner ≡ innermost (stackAt (stateIn words bytes) t)) ⌝ }
+    ensures value { λ r. ⌜ r ≡ enterValue (before words bytes) q ⌝ }
+    ensures state { λ r. ⌜ Leaves words bytes (enterState (before words bytes) t q) ⌝ }
 {
     let generation = enter_area(words, bytes, q, inner as usize);
     push(words, bytes, t, q as u8, inner_after(q as u8, inner));
     generation
 }
 
-// Op 04: area q; the value is its generation. The innermost scope is looked up once, for the checks and
-// for the effect.
-pub fn enter(
-    words: &mut Words,
-    bytes: &mut Bytes,
-    permanent: &[u64],
-    scratch: &[u64],
-    map: &[u64],
-    t: u64,
-    q: u64,
-) -> Answer
-    requires { ⌜ Ready (now words) (now bytes) ⌝ }
-    ensures { λ r. ⌜ Done (r .status) (r .value) (now (words .exit)) (now (bytes .exit)) (calls.outcomeOf (stateOf (now (words .entry)) (now (bytes .entry))) (memoryOf (now (permanent .entry)) (now (scratch .entry)) (now (map .entry))) (calls.enter t q)) ⌝ }
+// Op 04, after refusal 1: area q; the value is its generation. The innermost scope is looked up once, for
+// the checks and for the effect.
+pub fn enter_on(words: &mut Words, bytes: &mut Bytes, t: u64, q: u64) -> Answer
+    requires { ⌜ Usable words bytes ⌝ }
+    ensures { λ r. ⌜ Changes r words bytes (enterChange (before words bytes) t q) ⌝ }
 {
-    let caller = threads::check_caller(words, bytes, permanent, scratch, map, t);
+    let caller = threads::check_thread(words, bytes, t);
     if caller != 0 {
         return Answer {
             status: caller,
@@ -196,4 +187,26 @@ pub fn enter(
         status: 0,
         value: generation,
     }
+}
+
+pub fn enter(
+    words: &mut Words,
+    bytes: &mut Bytes,
+    permanent: &[u64],
+    scratch: &[u64],
+    map: &[u64],
+    t: u64,
+    q: u64,
+) -> Answer
+    requires { ⌜ Usable words bytes ⌝ }
+    ensures { λ r. ⌜ Answers r words bytes permanent scratch map (calls.enter t q) ⌝ }
+{
+    let fit = threads::lengths_fit(words, bytes, permanent, scratch, map);
+    if !fit {
+        return Answer {
+            status: 1,
+            value: 0,
+        };
+    }
+    enter_on(words, bytes, t, q)
 }

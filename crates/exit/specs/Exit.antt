@@ -10,31 +10,31 @@ use lib.Dec.{leb}
 use borrow.Author.Tests.{le-leb, lt-leb, eq-eqb, ne-eqb}
 use Rattle.layout.specs.Choice.{hit, skip, pick, cases}
 use Rattle.model.specs.declared.Area.{Area}
-use Rattle.model.specs.State.{State, Memory, areaAt, threadAt, withArea, withThread, stackAt, current, isScope}
-use Rattle.model.specs.Checks.{admit}
-use Rattle.model.specs.Scopes.{exitStatus, left, leftArea, popped, exitState, exitValue}
-use Rattle.model.proofs.Accepted.{Admitted, ExitOk, exit-ok}
+use Rattle.model.specs.State.{State, areaAt, threadAt, withArea, withThread, stackAt, current, isScope}
+use Rattle.model.specs.Checks.{called}
+use Rattle.model.specs.Scopes.{exitRest, left, leftArea, popped, exitState, exitValue}
+use Rattle.model.proofs.Accepted.{Called, ExitOk, exit-ok}
 use Rattle.tables.specs.Decode.{stateOf, areaRecord, putArea, lenOf, putLen, Shaped, Holds}
 use Rattle.tables.specs.Laws.{area-read, len-read, state-area, state-len}
-use Rattle.threads.specs.Outcomes.{caller-refused, admit-rest}
+use Rattle.threads.specs.Caller.{thread-refused, called-rest}
 
-module _ (s : State) (m : Memory) (t : ℕ) where
-  pub exit-not-called : {n : ℕ} → n ≡ admit s m t 0 → n ≢ 0 → n ≡ exitStatus s m t
-  unfolding exitStatus
-  exit-not-called e h = caller-refused s m t e h _
+module _ (s : State) (t : ℕ) where
+  pub exit-not-called : {n : ℕ} → n ≡ called s t 0 → n ≢ 0 → n ≡ exitRest s t
+  unfolding exitRest
+  exit-not-called e h = thread-refused s t e h _
 
-  module _ (a : Admitted s m t) where
-    pub exit-empty : threadAt s t .len ≡ 0 → 11 ≡ exitStatus s m t
-    unfolding exitStatus
-    exit-empty h = sym (admit-rest s m t a _ ∙ hit _ 11 0 (eq-eqb (threadAt s t .len) 0 h))
+  module _ (a : Called s t) where
+    pub exit-empty : threadAt s t .len ≡ 0 → 11 ≡ exitRest s t
+    unfolding exitRest
+    exit-empty h = sym (called-rest s t a _ ∙ hit _ 11 0 (eq-eqb (threadAt s t .len) 0 h))
 
-    pub exit-accepted : threadAt s t .len ≢ 0 → 0 ≡ exitStatus s m t
-    unfolding exitStatus
-    exit-accepted h = sym (admit-rest s m t a _ ∙ skip _ 11 0 (ne-eqb (threadAt s t .len) 0 h))
+    pub exit-accepted : threadAt s t .len ≢ 0 → 0 ≡ exitRest s t
+    unfolding exitRest
+    exit-accepted h = sym (called-rest s t a _ ∙ skip _ 11 0 (ne-eqb (threadAt s t .len) 0 h))
 
   -- n is what check_exit answers
-  pub exit-passed : {n : ℕ} → n ≡ exitStatus s m t → n ≡ 0 → ExitOk s m t
-  exit-passed e z = exit-ok s m t (sym e ∙ z)
+  pub exit-passed : {n : ℕ} → n ≡ exitRest s t → n ≡ 0 → ExitOk s t
+  exit-passed e z = exit-ok s t (sym e ∙ z)
 
 -- ---- the area
 

@@ -7,22 +7,15 @@ ghost use mathlib.Core.Path.{_≡_};
 ghost use Prim.Native.Nat.{pred, _<_, _≤_};
 ghost use Rattle.layout.specs.Choice.{pick};
 ghost use Rattle.model.specs.State.{isScope, areaAt, threadAt, withThread};
-ghost use Rattle.model.specs.Scopes.{exitStatus, left, leftArea, popped, exitState, exitValue};
+ghost use Rattle.model.specs.Scopes.{exitRest, left, leftArea, popped, exitState, exitValue, exitChange};
 ghost use Rattle.model.specs.Calls as calls;
-ghost use Rattle.tables.specs.Decode.{stateOf, Shaped, Holds};
-ghost use Rattle.tables.specs.Contract.{memoryOf, Ready, Done};
+ghost use Rattle.tables.specs.Decode.{Shaped};
+ghost use Rattle.tables.specs.Contract.{stateIn, before, Leaves, Usable, Changes, Answers};
 
-fn check_exit(
-    words: &Words,
-    bytes: &Bytes,
-    permanent: &[u64],
-    scratch: &[u64],
-    map: &[u64],
-    t: u64,
-) -> u64
-    ensures { λ n. ⌜ n ≡ exitStatus (stateOf (now (words .entry)) (now (bytes .entry))) (memoryOf (now (permanent .entry)) (now (scratch .entry)) (now (map .entry))) t ⌝ }
+fn check_exit(words: &Words, bytes: &Bytes, t: u64) -> u64
+    ensures { λ n. ⌜ n ≡ exitRest (before words bytes) t ⌝ }
 {
-    let refusal = threads::check_caller(words, bytes, permanent, scratch, map, t);
+    let refusal = threads::check_thread(words, bytes, t);
     if refusal != 0 {
         return refusal;
     }
@@ -55,9 +48,9 @@ fn left_area(x: Area) -> Area
 
 // Area q is left; the count that is left of a scope, else 0.
 fn leave_area(words: &mut Words, bytes: &Bytes, q: usize) -> u64
-    requires { ⌜ Shaped (now words) (now bytes) × (q < 64) × (2 ≤ q → 0 < areaAt (stateOf (now words) (now bytes)) q .count) ⌝ }
-    ensures { λ r. ⌜ r ≡ pick (isScope q) (pred (areaAt (stateOf (now (words .entry)) (now (bytes .entry))) q .count)) 0 ⌝ }
-    ensures { λ r. ⌜ Holds (now (words .exit)) (now (bytes .entry)) (leftArea (stateOf (now (words .entry)) (now (bytes .entry))) q) ⌝ }
+    requires { ⌜ Shaped (now words) (now bytes) × (q < 64) × (2 ≤ q → 0 < areaAt (stateIn words bytes) q .count) ⌝ }
+    ensures { λ r. ⌜ r ≡ pick (isScope q) (pred (areaAt (before words bytes) q .count)) 0 ⌝ }
+    ensures { λ r. ⌜ Leaves words bytes (leftArea (before words bytes) q) ⌝ }
 {
     if q < 2 {
         return 0;
@@ -69,22 +62,37 @@ fn leave_area(words: &mut Words, bytes: &Bytes, q: usize) -> u64
 
 // The top entry is taken off.
 fn pop(words: &mut Words, bytes: &Bytes, t: usize)
-    requires { ⌜ Shaped (now words) (now bytes) × (t < 16) × (0 < threadAt (stateOf (now words) (now bytes)) t .len) ⌝ }
-    ensures { λ u. ⌜ Holds (now (words .exit)) (now (bytes .entry)) (withThread (stateOf (now (words .entry)) (now (bytes .entry))) t (popped (threadAt (stateOf (now (words .entry)) (now (bytes .entry))) t))) ⌝ }
+    requires { ⌜ Shaped (now words) (now bytes) × (t < 16) × (0 < threadAt (stateIn words bytes) t .len) ⌝ }
+    ensures { λ u. ⌜ Leaves words bytes (withThread (before words bytes) t (popped (threadAt (before words bytes) t))) ⌝ }
 {
     let len = tables::len_at(words, t);
     tables::put_len(words, t, len - 1);
 }
 
 fn apply_exit(words: &mut Words, bytes: &Bytes, t: usize) -> u64
-    requires { ⌜ Ready (now words) (now bytes) × (t < 16) × (0 < threadAt (stateOf (now words) (now bytes)) t .len) ⌝ }
-    ensures { λ r. ⌜ r ≡ exitValue (stateOf (now (words .entry)) (now (bytes .entry))) t ⌝ }
-    ensures { λ r. ⌜ Holds (now (words .exit)) (now (bytes .entry)) (exitState (stateOf (now (words .entry)) (now (bytes .entry))) t) ⌝ }
+    requires { ⌜ Usable words bytes × (t < 16) × (0 < threadAt (stateIn words bytes) t .len) ⌝ }
+    ensures { λ r. ⌜ r ≡ exitValue (before words bytes) t ⌝ }
+    ensures { λ r. ⌜ Leaves words bytes (exitState (before words bytes) t) ⌝ }
 {
     let top = threads::current_area(words, bytes, t);
     let count = leave_area(words, bytes, top as usize);
     pop(words, bytes, t);
     count
+}
+
+// After refusal 1.
+pub fn exit_on(words: &mut Words, bytes: &Bytes, t: u64) -> Answer
+    requires { ⌜ Usable words bytes ⌝ }
+    ensures { λ r. ⌜ Changes r words bytes (exitChange (before words bytes) t) ⌝ }
+{
+    let status = check_exit(words, bytes, t);
+    if status != 0 {
+        return Answer { status, value: 0 };
+    }
+    Answer {
+        status: 0,
+        value: apply_exit(words, bytes, t as usize),
+    }
 }
 
 pub fn exit(
@@ -95,15 +103,15 @@ pub fn exit(
     map: &[u64],
     t: u64,
 ) -> Answer
-    requires { ⌜ Ready (now words) (now bytes) ⌝ }
-    ensures { λ r. ⌜ Done (r .status) (r .value) (now (words .exit)) (now (bytes .entry)) (calls.outcomeOf (stateOf (now (words .entry)) (now (bytes .entry))) (memoryOf (now (permanent .entry)) (now (scratch .entry)) (now (map .entry))) (calls.exit t)) ⌝ }
+    requires { ⌜ Usable words bytes ⌝ }
+    ensures { λ r. ⌜ Answers r words bytes permanent scratch map (calls.exit t) ⌝ }
 {
-    let status = check_exit(words, bytes, permanent, scratch, map, t);
-    if status != 0 {
-        return Answer { status, value: 0 };
+    let fit = threads::lengths_fit(words, bytes, permanent, scratch, map);
+    if !fit {
+        return Answer {
+            status: 1,
+            value: 0,
+        };
     }
-    Answer {
-        status: 0,
-        value: apply_exit(words, bytes, t as usize),
-    }
+    exit_on(words, bytes, t)
 }

@@ -7,8 +7,7 @@ use tables::Words;
 use views::ViewPlace;
 ghost use mathlib.Core.Path.{_≡_};
 ghost use Rattle.model.specs.Calls as calls;
-ghost use Rattle.tables.specs.Decode.{stateOf};
-ghost use Rattle.tables.specs.Contract.{memoryOf, Ready, Answers};
+ghost use Rattle.tables.specs.Contract.{before, supplied, Usable, Answers};
 ghost use Rattle.views.specs.PlacedView.{viewPlaceOf, PlaceAnswers};
 
 // Op 06: an object with so many slots and data words in the current area; the value is its handle.
@@ -23,7 +22,7 @@ pub extern "C" fn scopes_allocate(
     slots: u64,
     data_words: u64,
 ) -> Answer
-    requires { ⌜ Ready (now words) (now bytes) ⌝ }
+    requires { ⌜ Usable words bytes ⌝ }
     ensures { λ r. ⌜ Answers r words bytes permanent scratch map (calls.allocate t slots data_words) ⌝ }
 {
     allocation::allocate(words, bytes, permanent, scratch, map, t, slots, data_words)
@@ -42,7 +41,7 @@ pub extern "C" fn scopes_store(
     slot: u64,
     target: u64,
 ) -> Answer
-    requires { ⌜ Ready (now words) (now bytes) ⌝ }
+    requires { ⌜ Usable words bytes ⌝ }
     ensures { λ r. ⌜ Answers r words bytes permanent scratch map (calls.store t object slot target) ⌝ }
 {
     references::store(
@@ -70,7 +69,7 @@ pub extern "C" fn scopes_load(
     object: u64,
     slot: u64,
 ) -> Answer
-    requires { ⌜ Ready (now words) (now bytes) ⌝ }
+    requires { ⌜ Usable words bytes ⌝ }
     ensures { λ r. ⌜ Answers r words bytes permanent scratch map (calls.load t object slot) ⌝ }
 {
     references::load(words, bytes, permanent, scratch, map, t, object, slot)
@@ -89,10 +88,10 @@ pub extern "C" fn scopes_write(
     index: u64,
     word: u64,
 ) -> Answer
-    requires { ⌜ Ready (now words) (now bytes) ⌝ }
+    requires { ⌜ Usable words bytes ⌝ }
     ensures { λ r. ⌜ Answers r words bytes permanent scratch map (calls.write t object index word) ⌝ }
 {
-    access::write(
+    data::write(
         words,
         bytes,
         permanent,
@@ -117,10 +116,10 @@ pub extern "C" fn scopes_read(
     object: u64,
     index: u64,
 ) -> Answer
-    requires { ⌜ Ready (now words) (now bytes) ⌝ }
+    requires { ⌜ Usable words bytes ⌝ }
     ensures { λ r. ⌜ Answers r words bytes permanent scratch map (calls.read t object index) ⌝ }
 {
-    access::read(words, bytes, permanent, scratch, map, t, object, index)
+    data::read(words, bytes, permanent, scratch, map, t, object, index)
 }
 
 // The status of showing an object's data.
@@ -134,8 +133,8 @@ pub extern "C" fn scopes_view_status(
     t: u64,
     object: u64,
 ) -> Answer
-    requires { ⌜ Ready (now words) (now bytes) ⌝ }
-    ensures { λ r. ⌜ Answers r words bytes permanent scratch map (calls.viewed t object) ⌝ }
+    requires { ⌜ Usable words bytes ⌝ }
+    ensures { λ r. ⌜ Answers r words bytes permanent scratch map (calls.viewStatus t object) ⌝ }
 {
     views::view_status(words, bytes, permanent, scratch, map, t, object)
 }
@@ -151,9 +150,9 @@ pub extern "C" fn scopes_view_place(
     t: u64,
     object: u64,
 ) -> ViewPlace
-    requires { ⌜ Ready (now words) (now bytes) ⌝ }
-    ensures { λ r. ⌜ r ≡ viewPlaceOf (stateOf (now (words .entry)) (now (bytes .entry))) (memoryOf (now (permanent .entry)) (now (scratch .entry)) (now (map .entry))) t object ⌝ }
-    ensures { λ r. ⌜ PlaceAnswers r words bytes permanent scratch map t object ⌝ }
+    requires { ⌜ Usable words bytes ⌝ }
+    ensures place { λ r. ⌜ r ≡ viewPlaceOf (before words bytes) (supplied permanent scratch map) t object ⌝ }
+    ensures answers { λ r. ⌜ PlaceAnswers r words bytes permanent scratch map t object ⌝ }
 {
     views::view_place(words, bytes, permanent, scratch, map, t, object)
 }

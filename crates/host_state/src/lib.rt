@@ -2,7 +2,7 @@
 // entered and left. One exported function for each call, thin over the crate that has it.
 //
 // The host keeps the two tables of the state, `words` and `bytes`, and the three buffers, and lends
-// them to each call. Beside that a call asks one thing, `Ready`: that the tables are those that
+// them to each call. Beside that a call asks one thing, `Usable`: that the tables are those that
 // set-up gave and that calls alone have changed since. Every call leaves it for the next. What the
 // buffers hold is free. What a call answers and leaves is the one contract of any call, `Answers`.
 use layout::stack::Answer;
@@ -11,7 +11,7 @@ use tables::Bytes;
 use tables::Words;
 ghost use Rattle.model.specs.SetUp.{lengthsOf};
 ghost use Rattle.model.specs.Calls as calls;
-ghost use Rattle.tables.specs.Contract.{memoryOf, Ready, Answers};
+ghost use Rattle.tables.specs.Contract.{supplied, Usable, Answers};
 ghost use Rattle.setup.specs.First.{Begun};
 
 // Set-up: the first h words of the permanent store are the heap's, the other i immortal memory's.
@@ -23,7 +23,7 @@ pub extern "C" fn scopes_set_up(
     h: u64,
     i: u64,
 ) -> SetUp
-    ensures { λ r. ⌜ Begun (r .status) (r .words) (r .bytes) h i (lengthsOf (memoryOf (now (permanent .entry)) (now (scratch .entry)) (now (map .entry)))) ⌝ }
+    ensures { λ r. ⌜ Begun (r .status) (r .words) (r .bytes) h i (lengthsOf (supplied permanent scratch map)) ⌝ }
 {
     setup::set_up(permanent, scratch, map, h, i)
 }
@@ -39,7 +39,7 @@ pub extern "C" fn scopes_start(
     t: u64,
     kind: u64,
 ) -> Answer
-    requires { ⌜ Ready (now words) (now bytes) ⌝ }
+    requires { ⌜ Usable words bytes ⌝ }
     ensures { λ r. ⌜ Answers r words bytes permanent scratch map (calls.start t kind) ⌝ }
 {
     threads::start(words, bytes, permanent, scratch, map, t, kind)
@@ -55,7 +55,7 @@ pub extern "C" fn scopes_end(
     map: &[u64],
     t: u64,
 ) -> Answer
-    requires { ⌜ Ready (now words) (now bytes) ⌝ }
+    requires { ⌜ Usable words bytes ⌝ }
     ensures { λ r. ⌜ Answers r words bytes permanent scratch map (calls.end t) ⌝ }
 {
     threads::end(words, bytes, permanent, scratch, map, t)
@@ -73,7 +73,7 @@ pub extern "C" fn scopes_make(
     area: u64,
     size: u64,
 ) -> Answer
-    requires { ⌜ Ready (now words) (now bytes) ⌝ }
+    requires { ⌜ Usable words bytes ⌝ }
     ensures { λ r. ⌜ Answers r words bytes permanent scratch map (calls.make t area size) ⌝ }
 {
     areas::make::make(words, bytes, permanent, scratch, map, t, area, size)
@@ -90,7 +90,7 @@ pub extern "C" fn scopes_enter(
     t: u64,
     area: u64,
 ) -> Answer
-    requires { ⌜ Ready (now words) (now bytes) ⌝ }
+    requires { ⌜ Usable words bytes ⌝ }
     ensures { λ r. ⌜ Answers r words bytes permanent scratch map (calls.enter t area) ⌝ }
 {
     entry::enter(words, bytes, permanent, scratch, map, t, area)
@@ -106,7 +106,7 @@ pub extern "C" fn scopes_exit(
     map: &[u64],
     t: u64,
 ) -> Answer
-    requires { ⌜ Ready (now words) (now bytes) ⌝ }
+    requires { ⌜ Usable words bytes ⌝ }
     ensures { λ r. ⌜ Answers r words bytes permanent scratch map (calls.exit t) ⌝ }
 {
     exit::exit(words, bytes, permanent, scratch, map, t)

@@ -1,4 +1,4 @@
--- What an accepted call has passed: one record for each op, from its status being 0.
+-- What an accepted call has passed: refusal 1 apart, then one record for each op, from the rest of its status being 0.
 -- Assumes nothing.
 use Prim.Native.Nat.{ℕ, suc, _+_, _≤_, _<_}
 use mathlib.Core.Bool.{true, not, _||_}
@@ -10,52 +10,51 @@ use Rattle.layout.specs.Choice.{peel, and-true, and-false, or-false}
 use Rattle.layout.specs.Handle.{null, areaOf}
 use Rattle.layout.specs.Header.{slotsOf, dataOf}
 use Rattle.model.specs.State.{State, Memory, areaAt, threadAt, stackAt, innermost, isMade, isOpen}
-use Rattle.model.specs.Checks.{fits, admit, headerAt, live, isObject, isReference, useStatus}
-use Rattle.model.specs.Threads.{isKind, startStatus, endStatus}
-use Rattle.model.specs.Scopes.{makeStatus, lastGeneration, otherParent, exhausted, enterStatus, exitStatus}
-use Rattle.model.specs.Objects.{currentAt, allocateStatus}
-use Rattle.model.specs.References.{mayRefer, slotStatus, referenceStatus, storeStatus}
-use Rattle.model.specs.Data.{dataStatus}
+use Rattle.model.specs.Checks.{fits, fitted, called, admit, headerAt, live, isObject, isReference, useRest}
+use Rattle.model.specs.Threads.{isKind, startRest, endRest}
+use Rattle.model.specs.Scopes.{makeRest, lastGeneration, otherParent, atLastGeneration, enterRest, exitRest}
+use Rattle.model.specs.Objects.{currentAt, allocateRest}
+use Rattle.model.specs.References.{mayRefer, slotRest, referenceRest, storeRest}
+use Rattle.model.specs.Data.{dataRest}
 
-module _ (s : State) (m : Memory) (t : ℕ) where
-  -- refusals 1 and 2
-  pub record Admitted : Type 0 where
-    pub supplied : fits s m ≡ true
+-- refusal 1
+pub fitted-ok : (s : State) (m : Memory) (rest : ℕ) → fitted s m rest ≡ 0 → (fits s m ≡ true) × (rest ≡ 0)
+unfolding fitted
+fitted-ok s m rest e =
+    let a = peel _ _ _ e in
+    (not-false (fits s m) (a .0), a .1)
+
+-- calls whose refusals read no lent word
+module _ (s : State) (t : ℕ) where
+  -- refusal 2
+  pub record Called : Type 0 where
     pub thread : t < 16
     pub started : 0 < threadAt s t .kind
 
-  pub admitted : (rest : ℕ) → admit s m t rest ≡ 0 → Admitted × (rest ≡ 0)
-  unfolding admit
-  admitted rest e =
-      let a = peel _ _ _ e in
-      let b = peel _ _ _ (a .1) in
+  pub called-ok : (rest : ℕ) → called s t rest ≡ 0 → Called × (rest ≡ 0)
+  unfolding called
+  called-ok rest e =
+      let b = peel _ _ _ e in
       let c = peel _ _ _ (b .1) in (
-        record {
-          supplied = not-false (fits s m) (a .0);
-          thread = omega (arith, leb-false);
-          started = ltb-true _ _ (not-false _ (c .0));
-        },
+        record { thread = omega (arith, leb-false); started = ltb-true _ _ (not-false _ (c .0)) },
         c .1,
       )
 
   -- op 01
   pub record StartOk (p : ℕ) : Type 0 where
-    pub supplied : fits s m ≡ true
     pub thread : t < 16
     pub idle : threadAt s t .kind ≡ 0
     pub some : 0 < p
     pub kind : p < 4
 
-  pub start-ok : (p : ℕ) → startStatus s m t p ≡ 0 → StartOk p
-  unfolding startStatus
+  pub start-ok : (p : ℕ) → startRest s t p ≡ 0 → StartOk p
+  unfolding startRest
   start-ok p e =
-      let a = peel _ _ _ e in
-      let b = peel _ _ _ (a .1) in
+      let b = peel _ _ _ e in
       let c = peel _ _ _ (b .1) in
       let d = peel _ _ _ (c .1) in
       let k = and-true (ltb 0 p) _ (not-false (isKind p) (d .0)) in
       record {
-        supplied = not-false (fits s m) (a .0);
         thread = omega (arith, leb-false);
         idle = omega (arith, ltb-false);
         some = omega (arith, ltb-true);
@@ -64,29 +63,29 @@ module _ (s : State) (m : Memory) (t : ℕ) where
 
   -- op 02
   pub record EndOk : Type 0 where
-    pub called : Admitted
+    pub called : Called
     pub empty : threadAt s t .len ≡ 0
 
-  pub end-ok : endStatus s m t ≡ 0 → EndOk
-  unfolding endStatus
+  pub end-ok : endRest s t ≡ 0 → EndOk
+  unfolding endRest
   end-ok e =
-      let a = admitted _ e in
+      let a = called-ok _ e in
       let b = peel _ _ _ (a .1) in
       record { called = a .0; empty = omega (arith, ltb-false) }
 
   -- op 03
   pub record MakeOk (q r : ℕ) : Type 0 where
-    pub called : Admitted
+    pub called : Called
     pub scope : 2 ≤ q
     pub area : q < 64
     pub unmade : areaAt s q .size ≡ 0
     pub some : 0 < r
     pub room : s .taken + r ≤ s .lengths .scratch
 
-  pub make-ok : (q r : ℕ) → makeStatus s m t q r ≡ 0 → MakeOk q r
-  unfolding makeStatus isMade
+  pub make-ok : (q r : ℕ) → makeRest s t q r ≡ 0 → MakeOk q r
+  unfolding makeRest isMade
   make-ok q r e =
-      let a = admitted _ e in
+      let a = called-ok _ e in
       let b = peel _ _ _ (a .1) in
       let c = peel _ _ _ (b .1) in
       let d = peel _ _ _ (c .1) in
@@ -105,17 +104,17 @@ module _ (s : State) (m : Memory) (t : ℕ) where
 
   -- op 04
   pub record EnterOk (q : ℕ) : Type 0 where
-    pub called : Admitted
+    pub called : Called
     pub area : q < 64
     pub made : isMade s q ≡ true
     pub room : threadAt s t .len < 32
     pub parent : 2 ≤ q → 0 < areaAt s q .count → areaAt s q .parent ≡ innermost (stackAt s t)
     pub generation : 2 ≤ q → areaAt s q .count ≡ 0 → areaAt s q .generation < lastGeneration
 
-  pub enter-ok : (q : ℕ) → enterStatus s m t q ≡ 0 → EnterOk q
-  unfolding enterStatus otherParent exhausted
+  pub enter-ok : (q : ℕ) → enterRest s t q ≡ 0 → EnterOk q
+  unfolding enterRest otherParent atLastGeneration
   enter-ok q e =
-      let a = admitted _ e in
+      let a = called-ok _ e in
       let b = peel _ _ _ (a .1) in
       let c = peel _ _ _ (b .1) in
       let d = peel _ _ _ (c .1) in
@@ -138,50 +137,61 @@ module _ (s : State) (m : Memory) (t : ℕ) where
 
   -- op 05
   pub record ExitOk : Type 0 where
-    pub called : Admitted
+    pub called : Called
     pub some : 0 < threadAt s t .len
 
-  pub exit-ok : exitStatus s m t ≡ 0 → ExitOk
-  unfolding exitStatus
+  pub exit-ok : exitRest s t ≡ 0 → ExitOk
+  unfolding exitRest
   exit-ok e =
-      let a = admitted _ e in
+      let a = called-ok _ e in
       let b = peel _ _ _ (a .1) in
       record { called = a .0; some = omega (arith, eqb-false) }
 
   -- op 06
-  pub record AllocateOk (slots words : ℕ) : Type 0 where
-    pub called : Admitted
-    pub room : suc (areaAt s (currentAt s t) .used + slots + words) ≤ areaAt s (currentAt s t) .size
+  pub record AllocateOk (slots dataWords : ℕ) : Type 0 where
+    pub called : Called
+    pub room : suc (areaAt s (currentAt s t) .used + slots + dataWords) ≤ areaAt s (currentAt s t) .size
 
-  pub allocate-ok : (slots words : ℕ) → allocateStatus s m t slots words ≡ 0 → AllocateOk slots words
-  unfolding allocateStatus
-  allocate-ok slots words e =
-      let a = admitted _ e in
+  pub allocate-ok : (slots dataWords : ℕ) → allocateRest s t slots dataWords ≡ 0 → AllocateOk slots dataWords
+  unfolding allocateRest
+  allocate-ok slots dataWords e =
+      let a = called-ok _ e in
       let b = peel _ _ _ (a .1) in
       let c = peel _ _ _ (b .1) in
       record { called = a .0; room = omega (arith, ltb-false) }
 
-  -- every call on an object
+-- calls on an object
+module _ (s : State) (m : Memory) (t : ℕ) where
+  -- refusals 1 and 2
+  pub record Admitted : Type 0 where
+    pub supplied : fits s m ≡ true
+    pub called : Called s t
+
+  pub admitted : (rest : ℕ) → admit s m t rest ≡ 0 → Admitted × (rest ≡ 0)
+  admitted rest e =
+      let a = fitted-ok s m _ e in
+      let b = called-ok s t rest (a .1) in
+      (record { supplied = a .0; called = b .0 }, b .1)
+
+  -- every one of them, after these
   pub record UseOk (p : ℕ) : Type 0 where
-    pub called : Admitted
     pub object : live s m p ≡ true
 
-  pub use-ok : (p rest : ℕ) → useStatus s m t p rest ≡ 0 → UseOk p × (rest ≡ 0)
-  unfolding useStatus isObject
+  pub use-ok : (p rest : ℕ) → useRest s m t p rest ≡ 0 → UseOk p × (rest ≡ 0)
+  unfolding useRest isObject
   use-ok p rest e =
-      let a = admitted _ e in
-      let b = peel _ _ _ (a .1) in
+      let b = peel _ _ _ e in
       let c = peel _ _ _ (b .1) in
       let d = and-true (not (eqb p null)) (live s m p) (not-false (isObject s m p) (b .0)) in
-      (record { called = a .0; object = d .1 }, c .1)
+      (record { object = d .1 }, c .1)
 
   -- ops 07 and 08 as far as the slot
   pub record SlotOk (p q : ℕ) : Type 0 where
     pub used : UseOk p
     pub slot : q < slotsOf (headerAt s m p)
 
-  pub slot-ok : (p q rest : ℕ) → slotStatus s m t p q rest ≡ 0 → SlotOk p q × (rest ≡ 0)
-  unfolding slotStatus
+  pub slot-ok : (p q rest : ℕ) → slotRest s m t p q rest ≡ 0 → SlotOk p q × (rest ≡ 0)
+  unfolding slotRest
   slot-ok p q rest e =
       let a = use-ok p _ e in
       let b = peel _ _ _ (a .1) in
@@ -193,8 +203,8 @@ module _ (s : State) (m : Memory) (t : ℕ) where
     pub target : isReference s m r ≡ true
     pub rule : eqb r null || mayRefer s (areaOf p) (areaOf r) ≡ true
 
-  pub store-ok : (p q r : ℕ) → storeStatus s m t p q r ≡ 0 → StoreOk p q r
-  unfolding storeStatus referenceStatus
+  pub store-ok : (p q r : ℕ) → storeRest s m t p q r ≡ 0 → StoreOk p q r
+  unfolding storeRest referenceRest
   store-ok p q r e =
       let a = slot-ok p q _ e in
       let b = peel _ _ _ (a .1) in
@@ -207,8 +217,8 @@ module _ (s : State) (m : Memory) (t : ℕ) where
     pub used : UseOk p
     pub index : q < dataOf (headerAt s m p)
 
-  pub data-ok : (p q : ℕ) → dataStatus s m t p q ≡ 0 → DataOk p q
-  unfolding dataStatus
+  pub data-ok : (p q : ℕ) → dataRest s m t p q ≡ 0 → DataOk p q
+  unfolding dataRest
   data-ok p q e =
       let a = use-ok p _ e in
       let b = peel _ _ _ (a .1) in

@@ -1,4 +1,4 @@
--- The book follows the state: set-up leaves both alike, and so does every accepted call.
+-- The history follows the state: set-up leaves both alike, and so does every accepted call.
 -- Assumes nothing.
 use Prim.Native.Nat.{ℕ, suc, _+_, _≤_, _<_}
 use mathlib.Core.Bool.{Bool, true, false}
@@ -13,25 +13,26 @@ use borrow.Author.Tests.{eqb-true, eqb-false, eq-eqb, ne-eqb, ltb-true, ltb-fals
 use Rattle.layout.specs.Choice.{cases}
 use Rattle.model.specs.declared.Area.{Area}
 use Rattle.model.specs.declared.Lengths.{Lengths}
-use Rattle.model.specs.State.{Thread, State, Memory, noThread, areaAt, threadAt, withArea, withThread, withTaken, stackOf, stackAt, innermost}
+use Rattle.model.specs.State.{Thread, State, Memory, noThread, areaAt, threadAt, withKind, withArea, withThread, withTaken, entriesOf, stackAt, innermost}
 use Rattle.model.specs.SetUp.{newThread, firstState}
 use Rattle.model.specs.Checks.{isStarted}
-use Rattle.model.specs.Threads.{ofKind, startState, endState}
+use Rattle.model.specs.Threads.{startState, endState}
 use Rattle.model.specs.Scopes.{madeArea, makeState, pushed, enterState, popped, exitState}
 use Rattle.model.specs.Objects.{currentAt, grown, allocateState}
-use Rattle.model.specs.Calls.{Call, start, end, make, enter, exit, allocate, store, load, write, read, view, viewed, callStatus, callState}
-use Rattle.model.specs.History.{Object, History, blank, rowOf, occurrences, total, historyStart, historyEnter, historyExit, historyAllocate, historyStep}
+use Rattle.model.specs.Calls.{Call, start, end, make, enter, exit, allocate, store, write, asks, callStatus, callState}
+use Rattle.model.specs.History.{Object, History, blank, threadRow, occurrences, total, historyStart, historyEnter, historyExit, historyAllocate, historyStep}
 use Rattle.model.specs.Invariant.{parentIn, stacksIn, Good}
-use Rattle.model.proofs.Accepted.{start-ok, end-ok, make-ok, MakeOk, enter-ok, EnterOk, exit-ok, ExitOk, allocate-ok, AllocateOk}
+use Rattle.model.proofs.Accepted.{fitted-ok, start-ok, end-ok, make-ok, MakeOk, enter-ok, EnterOk, exit-ok, ExitOk, allocate-ok, AllocateOk}
 use Rattle.model.proofs.Lists.{total-set, occ-same}
 use Rattle.model.proofs.Memory.{put-same, put-other}
 use Rattle.model.proofs.Sound.{Same}
 use Rattle.model.proofs.Parts.{thread-same, thread-other, stack-is, parts-of, number-kept}
 use Rattle.model.proofs.Stacks.{stack-none}
 use Rattle.model.proofs.Bounds.{by-area, current-area}
+use Rattle.model.proofs.Alters.{enter-stays, open-alters, fresh-alters, enter-others, by-left, exit-stays, exit-others}
 use Rattle.model.proofs.KeepsThreads.{kind-stacks, idle-empty}
-use Rattle.model.proofs.KeepsEnter.{enter-thread, enter-thread-other, enter-low-area, enter-area-other, enter-open-area, enter-fresh-area, enter-stacks}
-use Rattle.model.proofs.KeepsExit.{exit-thread, exit-thread-other, exit-low-area, exit-area-other, by-top, top-area, exit-more-area, exit-last-area, pop-is, exit-stacks}
+use Rattle.model.proofs.KeepsEnter.{enter-thread, enter-thread-other, enter-stacks}
+use Rattle.model.proofs.KeepsExit.{exit-thread, exit-thread-other, top-area, exit-more-area, exit-last-area, pop-is, exit-stacks}
 use Rattle.model.proofs.Keeps.{first-stacks, first-area}
 
 -- ---- set-up
@@ -60,39 +61,39 @@ module _ (s : State) (g : Good s) (b : History) (m : Same s b) (t : ℕ) (l : t 
       (λ d. rw (f u (eqb-false u t d)) (m .started u))
 
   -- a thread with no entries becomes of another kind
-  same-kind : threadAt s t .len ≡ 0 → (k : ℕ) (on : Bool) → ltb 0 k ≡ on → Same (withThread s t (ofKind (threadAt s t) k)) (historyStart b t on)
+  same-kind : threadAt s t .len ≡ 0 → (k : ℕ) (on : Bool) → ltb 0 k ≡ on → Same (withThread s t (withKind (threadAt s t) k)) (historyStart b t on)
   unfolding historyStart
   same-kind z k on e = record {
     started = λ u. cases (eqb u t)
-        (λ d. rw (eqb-true u t d, thread-same s t (ofKind (threadAt s t) k) (omega (arith, g .threads .size)), put-same) e)
-        (λ d. rw (thread-other s t (ofKind (threadAt s t) k) u (eqb-false u t d), put-other (b .started) t on u (eqb-false u t d)) (m .started u));
+        (λ d. rw (eqb-true u t d, thread-same s t (withKind (threadAt s t) k) (omega (arith, g .threads .size)), put-same) e)
+        (λ d. rw (thread-other s t (withKind (threadAt s t) k) u (eqb-false u t d), put-other (b .started) t on u (eqb-false u t d)) (m .started u));
     rows = kind-stacks s t k ∙ m .rows ∙ sym (set-getD (b .rows) t []) ∙ ap (set (b .rows) t) empty;
     parents = λ a. unfold withThread in m .parents a;
   }
     where
-      empty : rowOf b t ≡ []
+      empty : threadRow b t ≡ []
       empty = ap (λ (r : List (List ℕ)). getD r t []) (sym (m .rows)) ∙ stack-is s t ∙ stack-none (threadAt s t) z
 
 -- ---- enter
 
-module _ (s : State) (m : Memory) (t q : ℕ) (g : Good s) (ok : EnterOk s m t q) (b : History) (e : Same s b) where
+module _ (s : State) (t q : ℕ) (g : Good s) (ok : EnterOk s t q) (b : History) (e : Same s b) where
   enter-started : (u : ℕ) → isStarted (enterState s t q) u ≡ b .started u
   unfolding pushed
-  enter-started = started-same s g b e t (ok .called .thread) (enterState s t q) (ap (λ (h : Thread). h .kind) (enter-thread s m t q g ok)) (enter-thread-other s t q)
+  enter-started = started-same s g b e t (ok .called .thread) (enterState s t q) (ap (λ (h : Thread). h .kind) (enter-thread s t q g ok)) (enter-thread-other s t q g ok)
 
-  enter-rows : stacksIn (enterState s t q) ≡ set (b .rows) t (q ∷ rowOf b t)
-  enter-rows = enter-stacks s m t q g ok ∙ ap (λ (r : List (List ℕ)). set r t (q ∷ getD r t [])) (e .rows)
+  enter-rows : stacksIn (enterState s t q) ≡ set (b .rows) t (q ∷ threadRow b t)
+  enter-rows = enter-stacks s t q g ok ∙ ap (λ (r : List (List ℕ)). set r t (q ∷ getD r t [])) (e .rows)
 
-  -- how many entries of q the book has
+  -- how many entries of q the history has
   counted : 2 ≤ q → areaAt s q .count ≡ total q (b .rows)
   counted h = g .nesting .counts q h (ok .area) ∙ ap (total q) (e .rows)
 
   other-parents : (a : ℕ) → a ≢ q → parentIn (enterState s t q) a ≡ b .parents a
-  other-parents a ne = ap (λ (x : Area). x .parent) (enter-area-other s t q a ne) ∙ e .parents a
+  other-parents a ne = ap (λ (x : Area). x .parent) (enter-others s t q (g .areas) (ok .area) a ne .area) ∙ e .parents a
 
   same-low : q < 2 → Same (enterState s t q) (historyEnter b t q)
   unfolding historyEnter
-  same-low h = rw (lt-leb 2 q h) record { started = enter-started; rows = enter-rows; parents = λ a. ap (λ (x : Area). x .parent) (enter-low-area s t q a h) ∙ e .parents a }
+  same-low h = rw (lt-leb 2 q h) record { started = enter-started; rows = enter-rows; parents = λ a. ap (λ (x : Area). x .parent) (enter-stays s t q h .all a .area) ∙ e .parents a }
 
   same-open : 2 ≤ q → 0 < areaAt s q .count → Same (enterState s t q) (historyEnter b t q)
   unfolding historyEnter
@@ -100,7 +101,7 @@ module _ (s : State) (m : Memory) (t q : ℕ) (g : Good s) (ok : EnterOk s m t q
     started = enter-started;
     rows = enter-rows;
     parents = λ a. cases (eqb a q)
-        (λ d. rw (eqb-true a q d) (ap (λ (x : Area). x .parent) (enter-open-area s t q g (ok .area) h o) ∙ e .parents q))
+        (λ d. rw (eqb-true a q d) (ap (λ (x : Area). x .parent) (open-alters s t q (g .areas) (ok .area) h o .here) ∙ e .parents q))
         (λ d. other-parents a (eqb-false a q d));
   }
 
@@ -110,113 +111,105 @@ module _ (s : State) (m : Memory) (t q : ℕ) (g : Good s) (ok : EnterOk s m t q
     started = enter-started;
     rows = enter-rows;
     parents = λ a. cases (eqb a q)
-        (λ d. rw (eqb-true a q d, put-same) (ap (λ (x : Area). x .parent) (enter-fresh-area s t q g (ok .area) h z) ∙ inner))
-        (λ d. rw (put-other (b .parents) q (innermost (rowOf b t)) a (eqb-false a q d)) (other-parents a (eqb-false a q d)));
+        (λ d. rw (eqb-true a q d, put-same) (ap (λ (x : Area). x .parent) (fresh-alters s t q (g .areas) (ok .area) h z .here) ∙ inner))
+        (λ d. rw (put-other (b .parents) q (innermost (threadRow b t)) a (eqb-false a q d)) (other-parents a (eqb-false a q d)));
   }
     where
-      inner : innermost (stackAt s t) ≡ innermost (rowOf b t)
+      inner : innermost (stackAt s t) ≡ innermost (threadRow b t)
       inner = ap innermost (sym (stack-is s t) ∙ ap (λ (r : List (List ℕ)). getD r t []) (e .rows))
 
-  pub same-enter : Same (enterState s t q) (historyEnter b t q)
+  same-enter : Same (enterState s t q) (historyEnter b t q)
   same-enter = by-area s q same-low same-fresh same-open
 
 -- ---- exit
 
-module _ (s : State) (m : Memory) (t : ℕ) (g : Good s) (ok : ExitOk s m t) (b : History) (e : Same s b) where
-  -- the book's row has the core's top
-  pub row-top : rowOf b t ≡ currentAt s t ∷ stackOf (popped (threadAt s t))
-  row-top = ap (λ (r : List (List ℕ)). getD r t []) (sym (e .rows)) ∙ pop-is s m t g ok
+module _ (s : State) (t : ℕ) (g : Good s) (ok : ExitOk s t) (b : History) (e : Same s b) where
+  -- the history's row has the core's top
+  pub row-top : threadRow b t ≡ currentAt s t ∷ entriesOf (popped (threadAt s t))
+  row-top = ap (λ (r : List (List ℕ)). getD r t []) (sym (e .rows)) ∙ pop-is s t g ok
 
   exit-started : (u : ℕ) → isStarted (exitState s t) u ≡ b .started u
   unfolding popped
-  exit-started = started-same s g b e t (ok .called .thread) (exitState s t) (ap (λ (h : Thread). h .kind) (exit-thread s m t g ok)) (exit-thread-other s t)
+  exit-started = started-same s g b e t (ok .called .thread) (exitState s t) (ap (λ (h : Thread). h .kind) (exit-thread s t g ok)) (exit-thread-other s t g ok)
 
-  exit-rows : stacksIn (exitState s t) ≡ set (b .rows) t (stackOf (popped (threadAt s t)))
-  exit-rows = exit-stacks s m t g ok ∙ ap (λ (r : List (List ℕ)). set r t (stackOf (popped (threadAt s t)))) (e .rows)
+  exit-rows : stacksIn (exitState s t) ≡ set (b .rows) t (entriesOf (popped (threadAt s t)))
+  exit-rows = exit-stacks s t g ok ∙ ap (λ (r : List (List ℕ)). set r t (entriesOf (popped (threadAt s t)))) (e .rows)
 
-  -- how many entries of the top the book has then
-  pub left-count : 2 ≤ currentAt s t → suc (total (currentAt s t) (set (b .rows) t (stackOf (popped (threadAt s t))))) ≡ areaAt s (currentAt s t) .count
+  -- how many entries of the top the history has then
+  pub left-count : 2 ≤ currentAt s t → suc (total (currentAt s t) (set (b .rows) t (entriesOf (popped (threadAt s t))))) ≡ areaAt s (currentAt s t) .count
   left-count h = omega (
     arith,
-    g .nesting .counts (currentAt s t) h (top-area s m t g ok),
+    g .nesting .counts (currentAt s t) h (top-area s t g ok),
     ap (total (currentAt s t)) (e .rows),
     ap (occurrences (currentAt s t)) row-top,
-    occ-same (currentAt s t) (stackOf (popped (threadAt s t))),
-    total-set (currentAt s t) (b .rows) t (stackOf (popped (threadAt s t))) (omega (arith, g .nesting .size, ap length (e .rows), ok .called .thread)),
+    occ-same (currentAt s t) (entriesOf (popped (threadAt s t))),
+    total-set (currentAt s t) (b .rows) t (entriesOf (popped (threadAt s t))) (omega (arith, g .nesting .size, ap length (e .rows), ok .called .thread)),
   )
 
   left-parents : (a : ℕ) → a ≢ currentAt s t → parentIn (exitState s t) a ≡ b .parents a
-  left-parents a ne = ap (λ (x : Area). x .parent) (exit-area-other s t a ne) ∙ e .parents a
+  left-parents a ne = ap (λ (x : Area). x .parent) (exit-others s t (g .areas) (top-area s t g ok) a ne .area) ∙ e .parents a
 
   exit-same-low : currentAt s t < 2 → Same (exitState s t) (historyExit b t)
   unfolding historyExit
   exit-same-low h = rw (row-top, lt-leb 2 (currentAt s t) h)
-      record { started = exit-started; rows = exit-rows; parents = λ a. ap (λ (x : Area). x .parent) (exit-low-area s t a h) ∙ e .parents a }
+      record { started = exit-started; rows = exit-rows; parents = λ a. ap (λ (x : Area). x .parent) (exit-stays s t h .all a .area) ∙ e .parents a }
 
   exit-same-last : 2 ≤ currentAt s t → areaAt s (currentAt s t) .count ≤ 1 → Same (exitState s t) (historyExit b t)
   unfolding historyExit
-  exit-same-last h k = rw (row-top, le-leb 2 (currentAt s t) h, eq-eqb (total (currentAt s t) (set (b .rows) t (stackOf (popped (threadAt s t))))) 0 (omega (arith, left-count h))) record {
+  exit-same-last h k = rw (row-top, le-leb 2 (currentAt s t) h, eq-eqb (total (currentAt s t) (set (b .rows) t (entriesOf (popped (threadAt s t))))) 0 (omega (arith, left-count h))) record {
     started = exit-started;
     rows = exit-rows;
     parents = λ a. cases (eqb a (currentAt s t))
-        (λ d. rw (eqb-true a (currentAt s t) d, put-same) (ap (λ (x : Area). x .parent) (exit-last-area s m t g ok h k)))
+        (λ d. rw (eqb-true a (currentAt s t) d, put-same) (ap (λ (x : Area). x .parent) (exit-last-area s t g ok h k)))
         (λ d. rw (put-other (b .parents) (currentAt s t) 0 a (eqb-false a (currentAt s t) d)) (left-parents a (eqb-false a (currentAt s t) d)));
   }
 
   exit-same-more : 2 ≤ currentAt s t → 1 < areaAt s (currentAt s t) .count → Same (exitState s t) (historyExit b t)
   unfolding historyExit
-  exit-same-more h k = rw (row-top, le-leb 2 (currentAt s t) h, ne-eqb (total (currentAt s t) (set (b .rows) t (stackOf (popped (threadAt s t))))) 0 (λ z. omega (arith, left-count h))) record {
+  exit-same-more h k = rw (row-top, le-leb 2 (currentAt s t) h, ne-eqb (total (currentAt s t) (set (b .rows) t (entriesOf (popped (threadAt s t))))) 0 (λ z. omega (arith, left-count h))) record {
     started = exit-started;
     rows = exit-rows;
     parents = λ a. cases (eqb a (currentAt s t))
-        (λ d. rw (eqb-true a (currentAt s t) d) (ap (λ (x : Area). x .parent) (exit-more-area s m t g ok h k) ∙ e .parents (currentAt s t)))
+        (λ d. rw (eqb-true a (currentAt s t) d) (ap (λ (x : Area). x .parent) (exit-more-area s t g ok h k) ∙ e .parents (currentAt s t)))
         (λ d. left-parents a (eqb-false a (currentAt s t) d));
   }
 
-  pub same-exit : Same (exitState s t) (historyExit b t)
-  same-exit =
-      by-top s t
-      exit-same-low
-      (λ h. cases (leb (areaAt s (currentAt s t) .count) 1)
-      (λ o. exit-same-last h (leb-true (areaAt s (currentAt s t) .count) 1 o))
-      (λ o. exit-same-more h (leb-false (areaAt s (currentAt s t) .count) 1 o)))
+  same-exit : Same (exitState s t) (historyExit b t)
+  same-exit = by-left s t exit-same-low exit-same-last exit-same-more
 
 -- ---- words are given
 
-pub same-make : (s : State) (m : Memory) (t q r : ℕ) → Good s → MakeOk s m t q r → (b : History) → Same s b → Same (makeState s q r) b
+same-make : (s : State) (t q r : ℕ) → Good s → MakeOk s t q r → (b : History) → Same s b → Same (makeState s q r) b
 unfolding makeState withTaken withArea
-same-make s m t q r g ok b e = record {
+same-make s t q r g ok b e = record {
   started = e .started;
   rows = e .rows;
   parents = λ a. number-kept s (parts-of s g) q (madeArea (areaAt s q) (s .taken) r) (ok .area) (λ (x : Area). x .parent) refl a ∙ e .parents a;
 }
 
-pub same-allocate : (s : State) (m : Memory) (t slots words : ℕ) → Good s → AllocateOk s m t slots words → (b : History) (o : Object) → Same s b
-    → Same (allocateState s (currentAt s t) slots words) (historyAllocate b t o)
+same-allocate : (s : State) (t slots dataWords : ℕ) → Good s → AllocateOk s t slots dataWords → (b : History) (o : Object) → Same s b
+    → Same (allocateState s (currentAt s t) slots dataWords) (historyAllocate b t o)
 unfolding allocateState withArea historyAllocate
-same-allocate s m t slots words g ok b o e = record {
+same-allocate s t slots dataWords g ok b o e = record {
   started = e .started;
   rows = e .rows;
-  parents = λ a. number-kept s (parts-of s g) (currentAt s t) (grown (areaAt s (currentAt s t)) (suc (areaAt s (currentAt s t) .used + slots + words)))
+  parents = λ a. number-kept s (parts-of s g) (currentAt s t) (grown (areaAt s (currentAt s t)) (suc (areaAt s (currentAt s t) .used + slots + dataWords)))
       (current-area s g t (ok .called .thread)) (λ (x : Area). x .parent) refl a ∙ e .parents a;
 }
 
 -- ---- any accepted call
 
-pub same-call : (s : State) (m : Memory) (b : History) (c : Call) (v : ℕ) → Good s → Same s b → callStatus s m c ≡ 0 → Same (callState s c) (historyStep b c v)
+pub same-call : (s : State) (m : Memory) (b : History) (c : Call) (v : ℕ) → Good s → Same s b → callStatus s m c ≡ 0 → Same (callState s m c) (historyStep b c v)
 same-call s m b (start t p) v g e z =
-    let ok = start-ok s m t p z in
-    unfold startState in same-kind s g b e t (ok .thread) (idle-empty s m t p g ok) p true (lt-ltb 0 p (ok .some))
+    let ok = start-ok s t p (fitted-ok s m _ z .1) in
+    unfold startState in same-kind s g b e t (ok .thread) (idle-empty s t p g ok) p true (lt-ltb 0 p (ok .some))
 same-call s m b (end t) v g e z =
-    let ok = end-ok s m t z in
+    let ok = end-ok s t (fitted-ok s m _ z .1) in
     unfold endState in same-kind s g b e t (ok .called .thread) (ok .empty) 0 false refl
-same-call s m b (make t q r) v g e z = same-make s m t q r g (make-ok s m t q r z) b e
-same-call s m b (enter t q) v g e z = same-enter s m t q g (enter-ok s m t q z) b e
-same-call s m b (exit t) v g e z = same-exit s m t g (exit-ok s m t z) b e
-same-call s m b (allocate t q r) v g e z = same-allocate s m t q r g (allocate-ok s m t q r z) b _ e
+same-call s m b (make t q r) v g e z = same-make s t q r g (make-ok s t q r (fitted-ok s m _ z .1)) b e
+same-call s m b (enter t q) v g e z = same-enter s t q g (enter-ok s t q (fitted-ok s m _ z .1)) b e
+same-call s m b (exit t) v g e z = same-exit s t g (exit-ok s t (fitted-ok s m _ z .1)) b e
+same-call s m b (allocate t q r) v g e z = same-allocate s t q r g (allocate-ok s t q r (fitted-ok s m _ z .1)) b _ e
 same-call s m b (store t p q r) v g e z = e
-same-call s m b (load t p q) v g e z = e
 same-call s m b (write t p q r) v g e z = e
-same-call s m b (read t p q) v g e z = e
-same-call s m b (view t p) v g e z = e
-same-call s m b (viewed t p) v g e z = e
+same-call s m b (asks x) v g e z = e

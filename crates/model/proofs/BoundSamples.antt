@@ -7,9 +7,9 @@ use lib.ListN.{set}
 use Rattle.layout.specs.Choice.{pick}
 use Rattle.rights.specs.declared.Right.the-variants.{Enter, Allocate, Use, Refer}
 use Rattle.rights.specs.Rights.{Class, Heap, Immortal, Scope, classOf, allows}
-use Rattle.model.specs.State.{withArea}
+use Rattle.model.specs.State.{areaAt, withGeneration, withArea}
 use Rattle.model.specs.SetUp.{setUpStatus, setUpState}
-use Rattle.model.specs.Calls.{Call, start, end, make, enter, exit, allocate, store, load, write, read, viewed}
+use Rattle.model.specs.Calls.{Call, start, end, make, enter, exit, allocate, store, load, write, read, viewStatus}
 use Rattle.model.specs.Run.{World}
 use Rattle.model.proofs.SampleRuns.{answer, status, after, statuses, values, each, supplied, withState, copies, first, busy, inHeap, inImmortal, in2, in3}
 
@@ -54,7 +54,7 @@ parent-bounds = refl
 pub worn : ℕ → World
 worn g =
     let w : World = after busy (make 2 4 2 ∷ start 4 2 ∷ []) in
-    withState w (withArea (w .state) 4 (record { start = 10; size = 2; used = 0; generation = g; count = 0; parent = 0; depth = 0 }))
+    withState w (withArea (w .state) 4 (withGeneration (areaAt (w .state) 4) g))
 
 -- from 2^44 - 2 it opens to the last generation; while it is open it may be entered, then no more
 pub generation-bounds : statuses (worn 17592186044414) (enter 4 4 ∷ allocate 4 0 0 ∷ exit 4 ∷ enter 4 4 ∷ []) ≡ 0 ∷ 0 ∷ 0 ∷ 17 ∷ []
@@ -221,7 +221,7 @@ allocate-rights = refl
 
 -- "U in 09, 0a and the shown part (the object's area), and in 07 and 08 U for the object": for heap, immortal, scope 2
 pub uses : ℕ → ℕ → List Call
-uses t p = store t p 0 0 ∷ load t p 0 ∷ write t p 0 7 ∷ read t p 0 ∷ viewed t p ∷ []
+uses t p = store t p 0 0 ∷ load t p 0 ∷ write t p 0 7 ∷ read t p 0 ∷ viewStatus t p ∷ []
 
 pub use-rights : each busy (uses 1 inHeap) ∷ each busy (uses 1 inImmortal) ∷ each busy (uses 1 in2)
     ∷ each busy (uses 3 inHeap) ∷ each busy (uses 3 inImmortal) ∷ each busy (uses 3 in2) ∷ []

@@ -13,10 +13,9 @@ use Rattle.layout.specs.StackLaws.{length-down}
 use Rattle.model.specs.State.{State, areaAt, rowAt, threadAt, stackAt, current, innermost, displayAt}
 use Rattle.model.specs.Objects.{currentAt}
 use Rattle.model.specs.History.{occurrences, total}
-use Rattle.model.specs.Claims.{InOrder, none, keep, skip}
-use Rattle.model.specs.Invariant.{scopesOf, Nested, Nesting, parentIn, stacksIn, Good}
-use Rattle.model.proofs.Lists.{occ-le-total, on-one, occ-same}
-use Rattle.model.proofs.Walks.{row-at}
+use Rattle.model.specs.Invariant.{branchOf, firstOf, parentIn, stacksIn, Good}
+use Rattle.model.proofs.Lists.{occ-le-total, occ-same, order-length}
+use Rattle.model.proofs.Nesting.{Chain, chain-of, StandsOn, stands-on}
 use Rattle.model.proofs.Parts.{stack-is, inner-is}
 use Rattle.model.proofs.Stacks.{length-stack, stack-area}
 
@@ -33,34 +32,14 @@ unfolding total
 total-bound a [] f = omega arith
 total-bound a (r ∷ rs) f = omega (arith, occ-length a r, f 0 (omega arith), total-bound a rs (λ t h. f (suc t) (omega arith)))
 
-order-length : {l r : List ℕ} → InOrder l r → length l ≤ length r
-order-length none = omega arith
-order-length (keep o) = omega (arith, order-length o)
-order-length (skip o) = omega (arith, order-length o)
-
 -- a top that is a scope stands on its row
 current-occ : (l : List ℕ) → 2 ≤ current l → 0 < occurrences (current l) l
 current-occ [] h = absurd (omega arith)
 current-occ (x ∷ l) h = omega (arith, occ-same x l)
 
-current-nested : (par : ℕ → ℕ) (dis : ℕ → List ℕ) (l : List ℕ) → Nested par dis l → current l < 64
-current-nested par dis [] n = omega arith
-current-nested par dis (x ∷ l) n = n .0 .area
-
--- scope a on a row, above the scopes below it there
-pub record StandsOn (par : ℕ → ℕ) (dis : ℕ → List ℕ) (rows : List (List ℕ)) (a : ℕ) : Type 0 where
-  pub thread : ℕ
-  pub below : List ℕ
-  pub is-thread : thread < 16
-  pub nested : Nested par dis (a ∷ below)
-  pub order : InOrder (a ∷ below) (getD rows thread [])
-
-pub stands-on : {par : ℕ → ℕ} {dis : ℕ → List ℕ} {cnt : ℕ → ℕ} {rows : List (List ℕ)} → Nesting par dis cnt rows → (a : ℕ) → 2 ≤ a → 0 < total a rows → StandsOn par dis rows a
-stands-on {par} {dis} {rows = rows} v a h o =
-    let u : (t : ℕ) × (t < length rows) × (0 < occurrences a (getD rows t [])) = on-one a rows o in
-    let k : u .0 < 16 = omega (arith, u .1, v .size) in
-    let z : (l : List ℕ) × Nested par dis (a ∷ l) × InOrder (a ∷ l) (getD rows (u .0) []) = row-at par dis a h (getD rows (u .0) []) (v .nested (u .0) k) (u .2) in
-    record { thread = u .0; below = z .0; is-thread = k; nested = z .1; order = z .2 }
+first-area : (par : ℕ → ℕ) (dis : ℕ → List ℕ) (l : List ℕ) → Chain par dis l → firstOf l < 64
+first-area par dis [] n = omega arith
+first-area par dis (x ∷ l) n = n .0 .area
 
 -- an area is heap or immortal, a scope that is not open, or an open scope
 pub by-area {ℓ} : {C : Type ℓ} (s : State) (a : ℕ) → (a < 2 → C) → (2 ≤ a → areaAt s a .count ≡ 0 → C) → (2 ≤ a → 0 < areaAt s a .count → C) → C
@@ -87,14 +66,17 @@ module _ (s : State) (g : Good s) where
       current-occ (stackAt s t) k,
     )
 
-    pub inner-area : innermost (stackAt s t) < 64
-    inner-area = rw (inner-is s t) (current-nested (parentIn s) (displayAt s) (scopesOf (getD (stacksIn s) t [])) (g .nesting .nested t h))
+    branch-chain : Chain (parentIn s) (displayAt s) (branchOf (getD (stacksIn s) t []))
+    branch-chain = chain-of (parentIn s) (displayAt s) (getD (stacksIn s) t []) (g .nesting .nested t h)
 
-    -- the display of the innermost scope is the stack's scopes
-    pub inner-display : displayAt s (innermost (stackAt s t)) ≡ scopesOf (getD (stacksIn s) t [])
-    inner-display = rw (inner-is s t) (go (scopesOf (getD (stacksIn s) t [])) (g .nesting .nested t h))
+    pub inner-area : innermost (stackAt s t) < 64
+    inner-area = rw (inner-is s t) (first-area (parentIn s) (displayAt s) (branchOf (getD (stacksIn s) t [])) branch-chain)
+
+    -- the display of the innermost scope is the stack's branch
+    pub inner-display : displayAt s (innermost (stackAt s t)) ≡ branchOf (getD (stacksIn s) t [])
+    inner-display = rw (inner-is s t) (go (branchOf (getD (stacksIn s) t [])) branch-chain)
       where
-        go : (l : List ℕ) → Nested (parentIn s) (displayAt s) l → displayAt s (current l) ≡ l
+        go : (l : List ℕ) → Chain (parentIn s) (displayAt s) l → displayAt s (firstOf l) ≡ l
         go [] n = unfold displayAt down in rw (g .standing 0 (omega arith) .depth)
         go (x ∷ l) n = n .0 .display-is
 
@@ -108,10 +90,10 @@ module _ (s : State) (g : Good s) where
   length-row t h = rw (stack-is s t, length-stack (threadAt s t)) (g .threads .each t h .fits)
 
   -- an open scope stands on a stack, above its ancestors
-  open-nested : (a : ℕ) → 2 ≤ a → a < 64 → 0 < areaAt s a .count → (l : List ℕ) × Nested (parentIn s) (displayAt s) (a ∷ l) × (length (a ∷ l) ≤ 32)
-  open-nested a h k o =
+  open-depth : (a : ℕ) → 2 ≤ a → a < 64 → 0 < areaAt s a .count → areaAt s a .depth ≤ 32
+  open-depth a h k o =
       let z : StandsOn (parentIn s) (displayAt s) (stacksIn s) a = stands-on (g .nesting) a h (omega (arith, g .nesting .counts a h k)) in
-      (z .below, z .nested, omega (arith, order-length {l = a ∷ z .below} (z .order), length-row (z .thread) (z .is-thread)))
+      omega (arith, order-length {l = a ∷ z .branch} (z .order), length-row (z .thread) (z .is-thread), ap length (z .chain .0 .display-is), length-display a)
 
   module _ (a : ℕ) (k : a < 64) where
     -- "A stack has at most 32 entries", and there are 16
@@ -125,4 +107,4 @@ module _ (s : State) (g : Good s) where
         by-area s a
         (λ h. omega (arith, g .standing a h .depth))
         (λ h z. omega (arith, g .scopes a h k .no-depth z))
-        (λ h o. omega (arith, open-nested a h k o .2, ap length (open-nested a h k o .1 .0 .display-is), length-display a))
+        (λ h o. open-depth a h k o)

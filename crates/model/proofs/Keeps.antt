@@ -12,12 +12,12 @@ use Rattle.layout.specs.Choice.{refuse, cases, peel}
 use Rattle.layout.specs.Stack.{down}
 use Rattle.model.specs.declared.Area.{Area}
 use Rattle.model.specs.declared.Lengths.{Lengths}
-use Rattle.model.specs.State.{State, Memory, noArea, noThread, areaAt, stackOf}
+use Rattle.model.specs.State.{State, Memory, noArea, noThread, areaAt, entriesOf}
 use Rattle.model.specs.SetUp.{setUpStatus, newThread, firstState, setUpState}
-use Rattle.model.specs.Calls.{Call, start, end, make, enter, exit, allocate, store, load, write, read, view, viewed, callStatus, callState, outcomeOf}
+use Rattle.model.specs.Calls.{Call, start, end, make, enter, exit, allocate, store, write, asks, callStatus, callState, outcomeOf}
 use Rattle.model.specs.History.{occurrences, total}
-use Rattle.model.specs.Invariant.{scopesOf, ThreadGood, StandingGood, ScopeGood, Placed, stacksIn, Good}
-use Rattle.model.proofs.Accepted.{start-ok, end-ok, make-ok, enter-ok, exit-ok, allocate-ok}
+use Rattle.model.specs.Invariant.{ThreadGood, StandingGood, ScopeGood, Placed, stacksIn, Good}
+use Rattle.model.proofs.Accepted.{fitted-ok, start-ok, end-ok, make-ok, enter-ok, exit-ok, allocate-ok}
 use Rattle.model.proofs.Lists.{each-replicate}
 use Rattle.model.proofs.KeepsThreads.{good-start, good-end}
 use Rattle.model.proofs.KeepsObjects.{good-make, good-allocate}
@@ -46,7 +46,7 @@ module _ (h i : ℕ) (n : Lengths) where
     pub scratch : n .scratch ≤ 16384
     pub map : n .map ≡ (n .permanent + n .scratch + 63) / 64
 
-  pub set-up-ok : setUpStatus h i n ≡ 0 → SetUpOk
+  set-up-ok : setUpStatus h i n ≡ 0 → SetUpOk
   unfolding setUpStatus
   set-up-ok e =
       let a = peel (not (eqb (h + i) (n .permanent))) 0 _ e in
@@ -62,7 +62,7 @@ module _ (h i : ℕ) (n : Lengths) where
 
   -- the stacks are empty
   pub first-stacks : stacksIn (firstState h i n) ≡ replicate 16 []
-  unfolding firstState stackOf down
+  unfolding firstState entriesOf down
   first-stacks = refl
 
   -- no scope is made
@@ -125,7 +125,7 @@ module _ (h i : ℕ) (n : Lengths) where
     nesting = rw first-stacks record {
       size = refl;
       counts = λ a k l. first-area a .count ∙ sym (none-on a);
-      nested = λ t k. rw (getD-replicate {A = List ℕ} 16 t [] [] k) (unfold scopesOf in tt);
+      nested = λ t k. rw (getD-replicate {A = List ℕ} 16 t [] [] k) tt;
     };
   }
 
@@ -141,19 +141,16 @@ good-set-up h i n =
 -- ---- calls
 
 -- an accepted call
-pub good-call : (s : State) (m : Memory) (c : Call) → Good s → callStatus s m c ≡ 0 → Good (callState s c)
-good-call s m (start t p) g e = good-start s m t p g (start-ok s m t p e)
-good-call s m (end t) g e = good-end s m t g (end-ok s m t e)
-good-call s m (make t q r) g e = good-make s m t q r g (make-ok s m t q r e)
-good-call s m (enter t q) g e = good-enter s m t q g (enter-ok s m t q e)
-good-call s m (exit t) g e = good-exit s m t g (exit-ok s m t e)
-good-call s m (allocate t q r) g e = good-allocate s m t q r g (allocate-ok s m t q r e)
+pub good-call : (s : State) (m : Memory) (c : Call) → Good s → callStatus s m c ≡ 0 → Good (callState s m c)
+good-call s m (start t p) g e = good-start s t p g (start-ok s t p (fitted-ok s m _ e .1))
+good-call s m (end t) g e = good-end s t g (end-ok s t (fitted-ok s m _ e .1))
+good-call s m (make t q r) g e = good-make s t q r g (make-ok s t q r (fitted-ok s m _ e .1))
+good-call s m (enter t q) g e = good-enter s t q g (enter-ok s t q (fitted-ok s m _ e .1))
+good-call s m (exit t) g e = good-exit s t g (exit-ok s t (fitted-ok s m _ e .1))
+good-call s m (allocate t q r) g e = good-allocate s t q r g (allocate-ok s t q r (fitted-ok s m _ e .1))
 good-call s m (store t p q r) g e = g
-good-call s m (load t p q) g e = g
 good-call s m (write t p q r) g e = g
-good-call s m (read t p q) g e = g
-good-call s m (view t p) g e = g
-good-call s m (viewed t p) g e = g
+good-call s m (asks x) g e = g
 
 -- any call
 pub good-outcome : (s : State) (m : Memory) (c : Call) → Good s → Good (outcomeOf s m c .state)

@@ -1,4 +1,4 @@
--- Op 05: the state after an exit, case by case, and that it keeps the invariant.
+-- Op 05 keeps the invariant; the threads and the stacks after an exit.
 -- Assumes nothing.
 use Prim.Native.Nat.{ℕ, suc, pred, _≤_, _<_}
 use mathlib.Core.Bool.{true}
@@ -11,23 +11,24 @@ use native.Mathlib.Omega.{arith}
 use borrow.Author.Tests.{leb-true, leb-false, le-leb, lt-leb}
 use Rattle.layout.specs.Choice.{cases}
 use Rattle.model.specs.declared.Area.{Area}
-use Rattle.model.specs.State.{Thread, State, Memory, noThread, areaAt, rowAt, threadAt, withArea, withThread, stackOf, displayAt}
-use Rattle.model.specs.Scopes.{left, leftArea, popped, exitState}
+use Rattle.model.specs.State.{Thread, State, noThread, areaAt, rowAt, threadAt, withUsed, withCount, withParent, withArea, withThread, entriesOf, displayAt}
+use Rattle.model.specs.Scopes.{left, popped, exitState}
 use Rattle.model.specs.Objects.{currentAt}
 use Rattle.model.specs.Invariant.{Nesting, ScopeGood, parentIn, countIn, stacksIn, Good}
 use Rattle.model.proofs.Accepted.{ExitOk}
 use Rattle.model.proofs.Lists.{map-set}
 use Rattle.model.proofs.Nesting.{exit-low, exit-scope}
-use Rattle.model.proofs.Parts.{area-same, area-other, thread-same, thread-other, stack-is, display-same, seen, nesting-same, Parts, parts-of, good-of, parts-thread, parts-area}
+use Rattle.model.proofs.Parts.{thread-same, thread-other, stack-is, display-same, Untouched, seen, nesting-same, Parts, parts-of, good-of, parts-thread, parts-area}
 use Rattle.model.proofs.Stacks.{stack-pop, popped-good}
 use Rattle.model.proofs.Bounds.{current-area, current-open}
+use Rattle.model.proofs.Alters.{exit-is-low, exit-is-scope, by-top, exit-stays, exit-rows, left-alters, exit-others}
 
 -- a scope that is left and stays open, and one that is left for the last time
 abbrev pub lowered : Area → Area
-lowered x = record { start = x .start; size = x .size; used = x .used; generation = x .generation; count = pred (x .count); parent = x .parent; depth = x .depth }
+lowered x = withCount x (pred (x .count))
 
 abbrev pub shut : Area → Area
-shut x = record { start = x .start; size = x .size; used = 0; generation = x .generation; count = pred (x .count); parent = 0; depth = 0 }
+shut x = withParent (withUsed (lowered x) 0) 0 0
 
 left-more : (x : Area) → 1 < x .count → left x ≡ lowered x
 left-more x h = rw (lt-leb (x .count) 1 h)
@@ -35,58 +36,20 @@ left-more x h = rw (lt-leb (x .count) 1 h)
 left-last : (x : Area) → x .count ≤ 1 → left x ≡ shut x
 left-last x h = rw (le-leb (x .count) 1 h)
 
-module _ (s : State) (t : ℕ) where
-  -- ---- the two cases
-
-  pub exit-is-low : currentAt s t < 2 → exitState s t ≡ withThread s t (popped (threadAt s t))
-  unfolding exitState leftArea
-  exit-is-low h = rw (lt-leb 2 (currentAt s t) h)
-
-  pub exit-is-scope : 2 ≤ currentAt s t → exitState s t ≡ withThread (withArea s (currentAt s t) (left (areaAt s (currentAt s t)))) t (popped (threadAt s t))
-  unfolding exitState leftArea
-  exit-is-scope h = rw (le-leb 2 (currentAt s t) h)
-
-  pub by-top {ℓ} : {C : Type ℓ} → (currentAt s t < 2 → C) → (2 ≤ currentAt s t → C) → C
-  by-top low high = cases (leb 2 (currentAt s t)) (λ e. high (leb-true 2 (currentAt s t) e)) (λ e. low (leb-false 2 (currentAt s t) e))
-
-  -- ---- what is as it was
-
-  pub exit-threads : exitState s t .threads ≡ set (s .threads) t (popped (threadAt s t))
-  unfolding withThread withArea
-  exit-threads = by-top (λ h. ap (λ (r : State). r .threads) (exit-is-low h)) (λ h. ap (λ (r : State). r .threads) (exit-is-scope h))
-
-  pub exit-rows : exitState s t .rows ≡ s .rows
-  unfolding withThread withArea
-  exit-rows = by-top (λ h. ap (λ (r : State). r .rows) (exit-is-low h)) (λ h. ap (λ (r : State). r .rows) (exit-is-scope h))
-
-  pub exit-thread-other : (u : ℕ) → u ≢ t → threadAt (exitState s t) u ≡ threadAt s u
-  unfolding withThread
-  exit-thread-other u ne = ap (λ (l : List Thread). getD l u noThread) exit-threads ∙ thread-other s t (popped (threadAt s t)) u ne
-
-  module _ (a : ℕ) where
-    pub exit-row : rowAt (exitState s t) a ≡ rowAt s a
-    exit-row = ap (λ (l : List (List ℕ)). getD l a []) exit-rows
-
-    pub exit-low-area : currentAt s t < 2 → areaAt (exitState s t) a ≡ areaAt s a
-    unfolding withThread
-    exit-low-area h = ap (λ (r : State). areaAt r a) (exit-is-low h)
-
-    pub exit-area-other : a ≢ currentAt s t → areaAt (exitState s t) a ≡ areaAt s a
-    unfolding withThread
-    exit-area-other ne = by-top exit-low-area (λ h. ap (λ (r : State). areaAt r a) (exit-is-scope h) ∙ area-other s (currentAt s t) (left (areaAt s (currentAt s t))) a ne)
-
-module _ (s : State) (m : Memory) (t : ℕ) (g : Good s) (ok : ExitOk s m t) where
+module _ (s : State) (t : ℕ) (g : Good s) (ok : ExitOk s t) where
   -- ---- the top
 
   pub top-area : currentAt s t < 64
   top-area = current-area s g t (ok .called .thread)
 
-  pub top-open : 2 ≤ currentAt s t → 0 < areaAt s (currentAt s t) .count
+  top-open : 2 ≤ currentAt s t → 0 < areaAt s (currentAt s t) .count
   top-open = current-open s g t (ok .called .thread)
 
-  pub exit-scope-area : 2 ≤ currentAt s t → areaAt (exitState s t) (currentAt s t) ≡ left (areaAt s (currentAt s t))
-  unfolding withThread
-  exit-scope-area h = ap (λ (r : State). areaAt r (currentAt s t)) (exit-is-scope s t h) ∙ area-same s (currentAt s t) (left (areaAt s (currentAt s t))) (omega (arith, g .areas, top-area))
+  exit-scope-area : 2 ≤ currentAt s t → areaAt (exitState s t) (currentAt s t) ≡ left (areaAt s (currentAt s t))
+  exit-scope-area h = left-alters s t (g .areas) top-area h .here
+
+  others : (a : ℕ) → a ≢ currentAt s t → Untouched s (exitState s t) a
+  others = exit-others s t (g .areas) top-area
 
   -- where its count stays above 0, and where it was left for the last time
   pub exit-more-area : 2 ≤ currentAt s t → 1 < areaAt s (currentAt s t) .count → areaAt (exitState s t) (currentAt s t) ≡ lowered (areaAt s (currentAt s t))
@@ -97,16 +60,24 @@ module _ (s : State) (m : Memory) (t : ℕ) (g : Good s) (ok : ExitOk s m t) whe
 
   -- ---- the thread and the stacks
 
+  exit-threads : exitState s t .threads ≡ set (s .threads) t (popped (threadAt s t))
+  unfolding withThread withArea
+  exit-threads = by-top s t (λ h. ap (λ (r : State). r .threads) (exit-is-low s t h)) (λ h. ap (λ (r : State). r .threads) (exit-is-scope s t h))
+
+  pub exit-thread-other : (u : ℕ) → u ≢ t → threadAt (exitState s t) u ≡ threadAt s u
+  unfolding withThread
+  exit-thread-other u ne = ap (λ (l : List Thread). getD l u noThread) exit-threads ∙ thread-other s t (popped (threadAt s t)) u ne
+
   pub exit-thread : threadAt (exitState s t) t ≡ popped (threadAt s t)
   unfolding withThread
-  exit-thread = ap (λ (l : List Thread). getD l t noThread) (exit-threads s t) ∙ thread-same s t (popped (threadAt s t)) (omega (arith, g .threads .size, ok .called .thread))
+  exit-thread = ap (λ (l : List Thread). getD l t noThread) exit-threads ∙ thread-same s t (popped (threadAt s t)) (omega (arith, g .threads .size, ok .called .thread))
 
   -- the stack is the top and what is left
-  pub pop-is : getD (stacksIn s) t [] ≡ currentAt s t ∷ stackOf (popped (threadAt s t))
+  pub pop-is : getD (stacksIn s) t [] ≡ currentAt s t ∷ entriesOf (popped (threadAt s t))
   pop-is = stack-is s t ∙ stack-pop (threadAt s t) (ok .some)
 
-  pub exit-stacks : stacksIn (exitState s t) ≡ set (stacksIn s) t (stackOf (popped (threadAt s t)))
-  exit-stacks = ap (map stackOf) (exit-threads s t) ∙ map-set stackOf (s .threads) t (popped (threadAt s t))
+  pub exit-stacks : stacksIn (exitState s t) ≡ set (stacksIn s) t (entriesOf (popped (threadAt s t)))
+  exit-stacks = ap (map entriesOf) exit-threads ∙ map-set entriesOf (s .threads) t (popped (threadAt s t))
 
   -- ---- the nesting
 
@@ -117,15 +88,15 @@ module _ (s : State) (m : Memory) (t : ℕ) (g : Good s) (ok : ExitOk s m t) whe
   low-nesting h =
       nesting-same
       (exit-low (g .nesting) t (ok .called .thread) (currentAt s t) _ pop-is h)
-      (λ a. seen s (exitState s t) a (exit-low-area s t a h) (exit-row s t a))
-      (λ a. ap (λ (x : Area). x .count) (exit-low-area s t a h))
+      (λ a. seen (exit-stays s t h .all a))
+      (λ a. ap (λ (x : Area). x .count) (exit-stays s t h .all a .area))
       exit-stacks
 
   scope-nesting : 2 ≤ currentAt s t → After
   scope-nesting h = rw exit-stacks
       (exit-scope (g .nesting) t (ok .called .thread) (currentAt s t) _ pop-is _ _ _ h
-      (ap (λ (x : Area). suc (x .count)) (exit-scope-area h) ∙ less, λ a ne. ap (λ (x : Area). x .count) (exit-area-other s t a ne))
-      (λ a ne. seen s (exitState s t) a (exit-area-other s t a ne) (exit-row s t a))
+      (ap (λ (x : Area). suc (x .count)) (exit-scope-area h) ∙ less, λ a ne. ap (λ (x : Area). x .count) (others a ne .area))
+      (λ a ne. seen (others a ne))
       (λ o. still (more (rw (exit-scope-area h) at o))))
     where
       less : suc (pred (areaAt s (currentAt s t) .count)) ≡ areaAt s (currentAt s t) .count
@@ -138,7 +109,7 @@ module _ (s : State) (m : Memory) (t : ℕ) (g : Good s) (ok : ExitOk s m t) whe
           → (parentIn (exitState s t) (currentAt s t) ≡ parentIn s (currentAt s t)) × (displayAt (exitState s t) (currentAt s t) ≡ displayAt s (currentAt s t))
       still o =
           let e : areaAt (exitState s t) (currentAt s t) ≡ lowered (areaAt s (currentAt s t)) = exit-more-area h o in
-          (ap (λ (x : Area). x .parent) e, display-same s (exitState s t) (currentAt s t) (ap (λ (x : Area). x .depth) e) (exit-row s t (currentAt s t)))
+          (ap (λ (x : Area). x .parent) e, display-same s (exitState s t) (currentAt s t) (ap (λ (x : Area). x .depth) e) (exit-rows s t (currentAt s t)))
 
   -- ---- the whole
 

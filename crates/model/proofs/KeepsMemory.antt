@@ -1,4 +1,4 @@
--- Every accepted call keeps state, memory and book sound, and set-up gives a sound beginning: given that the state and the book stay good.
+-- Every accepted call keeps state, memory and history sound, and set-up gives a sound beginning: given that the state and the history stay good.
 -- Assumes nothing.
 use Prim.Native.Nat.{ℕ, zero, suc}
 use mathlib.Core.Bool.{true}
@@ -11,34 +11,31 @@ use Rattle.layout.specs.Choice.{cases}
 use Rattle.model.specs.State.{State, Memory, noArea}
 use Rattle.model.specs.SetUp.{lengthsOf, setUpStatus, firstState}
 use Rattle.model.specs.Checks.{fits}
-use Rattle.model.specs.Calls.{Call, start, end, make, enter, exit, allocate, store, load, write, read, view, viewed, callStatus, callValue, callState, callMemory}
+use Rattle.model.specs.Calls.{Call, start, end, make, enter, exit, allocate, store, write, asks, callStatus, callValue, callState, callMemory}
 use Rattle.model.specs.History.{History, blank, historyStep}
 use Rattle.model.specs.Invariant.{Good}
-use Rattle.model.proofs.Accepted.{make-ok, enter-ok, exit-ok, allocate-ok, StoreOk, store-ok, DataOk, data-ok}
+use Rattle.model.proofs.Accepted.{fitted-ok, admitted, make-ok, enter-ok, exit-ok, allocate-ok, StoreOk, store-ok, DataOk, data-ok}
 use Rattle.model.proofs.Lists.{occ-nil}
 use Rattle.model.proofs.Sound.{Same, usedIn, Sound}
 use Rattle.model.proofs.MemoryScopes.{sound-start, sound-end, sound-make, sound-enter, sound-exit}
 use Rattle.model.proofs.MemoryWords.{sound-store, sound-write}
 use Rattle.model.proofs.MemoryObjects.{sound-allocate}
 
-pub sound-call : (s : State) (m : Memory) (b : History) (c : Call) → Sound s m b → callStatus s m c ≡ 0 → Good (callState s c)
-    → Same (callState s c) (historyStep b c (callValue s m c)) → Sound (callState s c) (callMemory s m c) (historyStep b c (callValue s m c))
+pub sound-call : (s : State) (m : Memory) (b : History) (c : Call) → Sound s m b → callStatus s m c ≡ 0 → Good (callState s m c)
+    → Same (callState s m c) (historyStep b c (callValue s m c)) → Sound (callState s m c) (callMemory s m c) (historyStep b c (callValue s m c))
 sound-call s m b (start t p) o e g i = sound-start s m b o t p g i
 sound-call s m b (end t) o e g i = sound-end s m b o t g i
-sound-call s m b (make t q r) o e g i = sound-make s m b o t q r (make-ok s m t q r e) g i
-sound-call s m b (enter t q) o e g i = sound-enter s m b o t q (enter-ok s m t q e) g i
-sound-call s m b (exit t) o e g i = sound-exit s m b o t (exit-ok s m t e) g i
-sound-call s m b (allocate t q r) o e g i = sound-allocate s m b o t q r (allocate-ok s m t q r e) g i
+sound-call s m b (make t q r) o e g i = sound-make s m b o t q r (make-ok s t q r (fitted-ok s m _ e .1)) g i
+sound-call s m b (enter t q) o e g i = sound-enter s m b o t q (enter-ok s t q (fitted-ok s m _ e .1)) g i
+sound-call s m b (exit t) o e g i = sound-exit s m b o t (exit-ok s t (fitted-ok s m _ e .1)) g i
+sound-call s m b (allocate t q r) o e g i = sound-allocate s m b o t q r (allocate-ok s t q r (fitted-ok s m _ e .1)) g i
 sound-call s m b (store t p q r) o e g i =
-    let k : StoreOk s m t p q r = store-ok s m t p q r e in
+    let k : StoreOk s m t p q r = store-ok s m t p q r (admitted s m t _ e .1) in
     sound-store s m b o p (k .at .used .object) q (k .at .slot) r (k .target) (k .rule)
-sound-call s m b (load t p q) o e g i = o
 sound-call s m b (write t p q r) o e g i =
-    let k : DataOk s m t p q = data-ok s m t p q e in
+    let k : DataOk s m t p q = data-ok s m t p q (admitted s m t _ e .1) in
     sound-write s m b o p (k .used .object) q (k .index) r
-sound-call s m b (read t p q) o e g i = o
-sound-call s m b (view t p) o e g i = o
-sound-call s m b (viewed t p) o e g i = o
+sound-call s m b (asks x) o e g i = o
 
 -- ---- set-up
 

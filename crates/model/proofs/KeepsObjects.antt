@@ -19,7 +19,7 @@ use Rattle.model.proofs.Bounds.{current-area, current-open}
 abbrev Apart : Area → Area → Type 0
 Apart x y = (j k : ℕ) → j < x .size → k < y .size → x .start + j ≢ y .start + k
 
-module _ (s : State) (m : Memory) (t q r : ℕ) (g : Good s) (ok : MakeOk s m t q r) where
+module _ (s : State) (t q r : ℕ) (g : Good s) (ok : MakeOk s t q r) where
   made : Area
   made = madeArea (areaAt s q) (s .taken) r
 
@@ -63,9 +63,9 @@ module _ (s : State) (m : Memory) (t q r : ℕ) (g : Good s) (ok : MakeOk s m t 
 
 -- ---- op 06
 
-pub good-allocate : (s : State) (m : Memory) (t slots words : ℕ) → Good s → AllocateOk s m t slots words → Good (allocateState s (currentAt s t) slots words)
+pub good-allocate : (s : State) (t slots dataWords : ℕ) → Good s → AllocateOk s t slots dataWords → Good (allocateState s (currentAt s t) slots dataWords)
 unfolding allocateState
-good-allocate s m t slots words g ok = good-of (withArea s a x)
+good-allocate s t slots dataWords g ok = good-of (withArea s a x)
     (parts-area s (parts-of s g) a x here standing scope (record { start = refl; size = refl; used = ok .room }))
     (nesting-area s (parts-of s g) a x here refl refl refl (g .nesting))
   where
@@ -73,7 +73,7 @@ good-allocate s m t slots words g ok = good-of (withArea s a x)
     a = currentAt s t
 
     x : Area
-    x = grown (areaAt s a) (suc (areaAt s a .used + slots + words))
+    x = grown (areaAt s a) (suc (areaAt s a .used + slots + dataWords))
 
     here : a < 64
     here = current-area s g t (ok .called .thread)

@@ -14,6 +14,7 @@ pub mod Sound
 pub mod Parts
 pub mod Stacks
 pub mod Bounds
+pub mod Alters
 pub mod KeepsThreads
 pub mod KeepsObjects
 pub mod KeepsEnter
@@ -22,7 +23,6 @@ pub mod Keeps
 pub mod Agrees
 pub mod NestingClaims
 pub mod PlacedWords
-pub mod Alters
 pub mod Live
 pub mod MemoryKept
 pub mod MemoryScopes

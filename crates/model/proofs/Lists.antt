@@ -11,12 +11,13 @@ use native.Mathlib.Nat.{le-of-suc-le-suc, not-suc-le-zero}
 use lib.Seq.{getD-set-same, getD-set-other}
 use borrow.Author.Tests.{ltb-true, ltb-false, leb-true, leb-false, eqb-true, eqb-false, eq-eqb, ne-eqb, le-leb, lt-leb}
 use Rattle.layout.specs.Choice.{cases}
-use Rattle.model.specs.State.{current, innermost}
+use Rattle.model.specs.State.{innermost}
 use Rattle.model.specs.History.{occurrences, total}
-use Rattle.model.specs.Invariant.{scopesOf, Each}
+use Rattle.model.specs.Claims.{InOrder, none, keep, skip}
+use Rattle.model.specs.Invariant.{scopesOf, branchOf, firstOf, Each}
 
--- the innermost scope is the first of a row's scopes
-pub innermost-is : (l : List ℕ) → innermost l ≡ current (scopesOf l)
+-- the innermost scope is the first of a row's branch
+pub innermost-is : (l : List ℕ) → innermost l ≡ firstOf (branchOf l)
 unfolding innermost scopesOf
 innermost-is [] = refl
 innermost-is (x ∷ l) = cases (leb 2 x) (λ e. rw e) (λ e. rw e (innermost-is l))
@@ -53,6 +54,10 @@ pub occ-other : (a x : ℕ) (l : List ℕ) → x ≢ a → occurrences a (x ∷ 
 unfolding occurrences
 occ-other a x l h = rw (ne-eqb x a h) (omega arith)
 
+pub occ-more : (a x : ℕ) (l : List ℕ) → 0 < occurrences a l → 0 < occurrences a (x ∷ l)
+unfolding occurrences
+occ-more a x l h = omega arith
+
 pub occ-nil : (a : ℕ) → occurrences a [] ≡ 0
 unfolding occurrences
 occ-nil a = refl
@@ -82,11 +87,23 @@ occ-scopes a h (x ∷ l) =
     (λ d. rw (scopes-high x l (leb-true 2 x e), occ-other a x (scopesOf l) (eqb-false x a d), occ-other a x l (eqb-false x a d), occ-scopes a h l)))
     (λ e. rw (scopes-low x l (leb-false 2 x e), occ-other a x l (λ d. omega (arith, leb-false 2 x e)), occ-scopes a h l))
 
-pub length-scopes : (l : List ℕ) → length (scopesOf l) ≤ length l
+-- ---- parts of a row, in its order
+
+pub scopes-order : (r : List ℕ) → InOrder (scopesOf r) r
 unfolding scopesOf
-length-scopes [] = omega arith
-length-scopes (x ∷ l) =
-    cases (leb 2 x) (λ e. rw e (omega (arith, length-scopes l))) (λ e. rw e (omega (arith, length-scopes l)))
+scopes-order [] = none
+scopes-order (x ∷ r) = cases (leb 2 x) (λ e. rw e (keep (scopes-order r))) (λ e. rw e (skip (scopes-order r)))
+
+pub order-length : {l r : List ℕ} → InOrder l r → length l ≤ length r
+order-length none = omega arith
+order-length (keep o) = omega (arith, order-length o)
+order-length (skip o) = omega (arith, order-length o)
+
+pub order-occ : {l r : List ℕ} (c : ℕ) → InOrder l r → occurrences c l ≤ occurrences c r
+unfolding occurrences
+order-occ c none = omega arith
+order-occ c (keep o) = omega (arith, order-occ c o)
+order-occ c (skip o) = omega (arith, order-occ c o)
 
 -- ---- stores in lists
 

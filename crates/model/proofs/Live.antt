@@ -9,15 +9,15 @@ use native.Mathlib.Omega.{arith}
 use borrow.Author.Tests.{ltb-true, ltb-false, eqb-true, eq-eqb, le-leb, lt-ltb, le-ltb}
 use Rattle.layout.specs.Choice.{cases, and-true}
 use Rattle.layout.specs.Handle.{handleOf, offsetOf, areaOf, generationOf}
-use Rattle.layout.specs.Header.{headerOf, slotsOf, dataOf}
-use Rattle.layout.specs.HandleLaws.{packed, area-lt, area-packed, generation-packed, slots-packed, data-packed}
+use Rattle.layout.specs.Header.{slotsOf, dataOf}
+use Rattle.layout.specs.HandleLaws.{packed, area-lt, area-packed, generation-packed}
 use Rattle.model.specs.State.{State, Memory, isOpen, displayAt, wordAt}
 use Rattle.model.specs.Checks.{headerAt, live}
 use Rattle.model.specs.History.{Object, History, occurrences, handles}
 use Rattle.model.specs.Claims.{In}
 use Rattle.model.specs.Invariant.{countIn}
 use Rattle.model.proofs.Lists.{occ-nil}
-use Rattle.model.proofs.Tiles.{place, Tile, tiled-at, tiled-has}
+use Rattle.model.proofs.Tiles.{place, IsHeader, Tile, tiled-at, tiled-has}
 use Rattle.model.proofs.Memory.{Ok}
 use Rattle.model.proofs.Sound.{usedIn, generationIn, bitIn, Dead, Sound}
 use Rattle.model.proofs.PlacedWords.{room}
@@ -55,7 +55,7 @@ module _ (s : State) (m : Memory) (b : History) (o : Sound s m b) where
 
     module _ (p : 0 < occurrences h (handles (b .objects (areaOf h)))) where
       -- the area of an object that is not gone is open
-      pub given-open : (ltb (areaOf h) 2 || isOpen s (areaOf h)) ≡ true
+      given-open : (ltb (areaOf h) 2 || isOpen s (areaOf h)) ≡ true
       given-open = cases (ltb (areaOf h) 2)
           (λ e. rw e)
           (λ e. rw e (cases (isOpen s (areaOf h))
@@ -73,21 +73,12 @@ module _ (s : State) (m : Memory) (b : History) (o : Sound s m b) where
       pub given-place : place (given-tile .0) ≡ offsetOf h
       given-place = ap offsetOf (given-tile .2)
 
-      pub given-ends : suc (offsetOf h + given-tile .0 .slots + given-tile .0 .words) ≤ usedIn s (areaOf h)
+      pub given-ends : suc (offsetOf h + given-tile .0 .slots + given-tile .0 .dataWords) ≤ usedIn s (areaOf h)
       given-ends = omega (arith, given-place, given-tile .3 .ends, given-tile .4)
 
       -- what the header of an object that is not gone says
-      pub given-head : (slotsOf (headerAt s m h) ≡ given-tile .0 .slots) × (dataOf (headerAt s m h) ≡ given-tile .0 .words)
-      given-head = (
-        rw head (slots-packed (given-tile .0 .slots) (given-tile .0 .words) (omega (arith, small))),
-        rw head (data-packed (given-tile .0 .slots) (given-tile .0 .words) (omega (arith, small)) (omega (arith, small))),
-      )
-        where
-          head : headerAt s m h ≡ headerOf (given-tile .0 .slots) (given-tile .0 .words)
-          head = ap (wordAt s m (areaOf h)) (sym given-place) ∙ given-tile .3 .head
-
-          small : given-tile .0 .slots + given-tile .0 .words < 16384
-          small = omega (arith, room s (o .good .placed) (areaOf h) (area-lt h), given-ends)
+      pub given-head : IsHeader (headerAt s m h) (given-tile .0)
+      given-head = rw (← given-place) (given-tile .3 .head)
 
       pub given-live : live s m h ≡ true
       unfolding live
@@ -103,7 +94,7 @@ module _ (s : State) (m : Memory) (b : History) (o : Sound s m b) where
           on = ap (bitIn s m (areaOf h)) (sym given-place) ∙ given-tile .3 .on
 
           whole : leb (suc (offsetOf h + slotsOf (headerAt s m h) + dataOf (headerAt s m h))) (usedIn s (areaOf h)) ≡ true
-          whole = le-leb (suc (offsetOf h + slotsOf (headerAt s m h) + dataOf (headerAt s m h))) (usedIn s (areaOf h)) (omega (arith, given-head .0, given-head .1, given-ends))
+          whole = le-leb (suc (offsetOf h + slotsOf (headerAt s m h) + dataOf (headerAt s m h))) (usedIn s (areaOf h)) (omega (arith, given-head .slots, given-head .dataWords, given-ends))
 
     -- a handle that is dead is not live
     pub dead-not : Dead (countIn s) (generationIn s) h → live s m h ≡ false

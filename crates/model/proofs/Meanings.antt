@@ -12,9 +12,9 @@ use borrow.Author.Tests.{eqb-true, eqb-false, eq-eqb, ne-eqb}
 use Rattle.layout.specs.Choice.{cases}
 use Rattle.layout.specs.Handle.{offsetOf}
 use Rattle.model.specs.State.{State, Memory, areaAt, current, storeOf}
-use Rattle.model.specs.Calls.{Call, start, end, make, enter, exit, allocate, store, load, write, read, view, viewed}
+use Rattle.model.specs.Calls.{Call, start, end, make, enter, exit, allocate, store, write, asks}
 use Rattle.model.specs.Run.{Line, World}
-use Rattle.model.specs.History.{Object, History, rowOf, below, occurrences, handles, isScopeOnNone, historyStart, historyEnter, historyExit, historyAllocate, historyStep, historyLine, historyOf}
+use Rattle.model.specs.History.{Object, History, threadRow, below, occurrences, handles, isScopeOnNone, historyStart, historyEnter, historyExit, historyAllocate, historyStep, historyLine, historyFrom, historyOf}
 use Rattle.model.specs.Claims.{Open, Walk, ends, goes, Meets, here, up, InOrder, none, keep, skip, onRow, scan, In, Among, Within, Allocates, Since, made, stays, Names, Claims}
 use Rattle.model.proofs.Lists.{on-one, occ-le-total, occ-nil, occ-other}
 use Rattle.model.proofs.Memory.{put-same, put-other}
@@ -71,9 +71,9 @@ pub occurs-is : (a : ℕ) (r : List ℕ) → (0 < occurrences a r) ↔ Among a r
 occurs-is a r = (some-among a r, among-some)
 
 -- "Open means on some row."
-pub open-is : (b : History) (a : ℕ) → Open b a ↔ ((2 ≤ a) × ((t : ℕ) × Among a (rowOf b t)))
+pub open-is : (b : History) (a : ℕ) → Open b a ↔ ((2 ≤ a) × ((t : ℕ) × Among a (threadRow b t)))
 open-is b a = (
-  λ o. let z = on-one a (b .rows) (o .1) in (o .0, (z .0, some-among a (rowOf b (z .0)) (z .2))),
+  λ o. let z = on-one a (b .rows) (o .1) in (o .0, (z .0, some-among a (threadRow b (z .0)) (z .2))),
   λ z. (z .0, omega (arith, among-some (z .1 .1), occ-le-total a (b .rows) (z .1 .0))),
 )
 
@@ -170,20 +170,20 @@ order-among (keep o) Among.first = Among.first
 order-among (keep o) (Among.later i) = Among.later (order-among o i)
 order-among (skip o) i = Among.later (order-among o i)
 
--- ---- the book's objects
+-- ---- the history's objects
 
 -- an accepted allocation makes one object, in its area, with the handle that it gave
 pub allocates-is : {b : History} {l : Line} {x a : ℕ} → Allocates b l x a
     → (o : Object) × (o .handle ≡ x) × (historyLine b l .objects a ≡ o ∷ b .objects a)
 unfolding historyLine historyAllocate
 allocates-is {b} {l} {x} {a} k = (
-  record { handle = l .reply .value; slots = k .slots; words = k .words },
+  record { handle = l .reply .value; slots = k .slots; dataWords = k .dataWords },
   k .gave,
   rw (k .accepted, k .call, k .area) (put-same (b .objects) a _),
 )
 
 -- every word after the header of an object that lies inside is a word of its store: none reads as 0 because it is not there
-pub word-inside : {s : State} {m : Memory} {a : ℕ} {o : Object} → Within s m a o → (i : ℕ) → i < o .slots + o .words
+pub word-inside : {s : State} {m : Memory} {a : ℕ} {o : Object} → Within s m a o → (i : ℕ) → i < o .slots + o .dataWords
     → areaAt s a .start + suc (offsetOf (o .handle) + i) < length (storeOf m a)
 word-inside k i h = omega (arith, k .ends, k .used, k .inside)
 
@@ -201,18 +201,18 @@ module _ (b : History) (a : ℕ) (o : Object) (i : In o (b .objects a)) where
 
   kept-exit : (t : ℕ) → KeptOrGone (historyExit b t)
   unfolding historyExit
-  kept-exit t = cases (isScopeOnNone (current (rowOf b t)) (set (b .rows) t (below (rowOf b t))))
-      (λ e. cases (eqb a (current (rowOf b t)))
-      (λ d. inr (rw e (among-before (b .gone) (among-handles (rw (eqb-true a (current (rowOf b t)) d) at i)))))
-      (λ d. inl (rw (e, put-other (b .objects) (current (rowOf b t)) [] a (eqb-false a (current (rowOf b t)) d)) i)))
+  kept-exit t = cases (isScopeOnNone (current (threadRow b t)) (set (b .rows) t (below (threadRow b t))))
+      (λ e. cases (eqb a (current (threadRow b t)))
+      (λ d. inr (rw e (among-before (b .gone) (among-handles (rw (eqb-true a (current (threadRow b t)) d) at i)))))
+      (λ d. inl (rw (e, put-other (b .objects) (current (threadRow b t)) [] a (eqb-false a (current (threadRow b t)) d)) i)))
       (λ e. inl (rw e i))
 
   kept-allocate : (t : ℕ) (n : Object) → KeptOrGone (historyAllocate b t n)
   unfolding historyAllocate
-  kept-allocate t n = cases (eqb a (current (rowOf b t)))
-      (λ d. inl (rw (eqb-true a (current (rowOf b t)) d, put-same (b .objects) (current (rowOf b t)) (n ∷ b .objects (current (rowOf b t))))
-      (In.later (rw (eqb-true a (current (rowOf b t)) d) at i))))
-      (λ d. inl (rw (put-other (b .objects) (current (rowOf b t)) (n ∷ b .objects (current (rowOf b t))) a (eqb-false a (current (rowOf b t)) d)) i))
+  kept-allocate t n = cases (eqb a (current (threadRow b t)))
+      (λ d. inl (rw (eqb-true a (current (threadRow b t)) d, put-same (b .objects) (current (threadRow b t)) (n ∷ b .objects (current (threadRow b t))))
+      (In.later (rw (eqb-true a (current (threadRow b t)) d) at i))))
+      (λ d. inl (rw (put-other (b .objects) (current (threadRow b t)) (n ∷ b .objects (current (threadRow b t))) a (eqb-false a (current (threadRow b t)) d)) i))
 
   kept-step : (c : Call) (v : ℕ) → KeptOrGone (historyStep b c v)
   unfolding historyStart historyEnter
@@ -223,11 +223,8 @@ module _ (b : History) (a : ℕ) (o : Object) (i : In o (b .objects a)) where
   kept-step (exit t) v = kept-exit t
   kept-step (allocate t q r) v = kept-allocate t _
   kept-step (store t p q r) v = inl i
-  kept-step (load t p q) v = inl i
   kept-step (write t p q r) v = inl i
-  kept-step (read t p q) v = inl i
-  kept-step (view t p) v = inl i
-  kept-step (viewed t p) v = inl i
+  kept-step (asks x) v = inl i
 
   -- nothing vanishes: after a line an object is there, or its handle is one of those gone
   pub kept-or-gone : (l : Line) → KeptOrGone (historyLine b l)
@@ -242,9 +239,9 @@ current-among (x ∷ r) h = Among.first
 
 -- the area that an allocation allocates in is open, if it is a scope
 allocated-open : {x a : ℕ} {l : Line} (ls : List Line) → Allocates (historyOf ls) l x a → 2 ≤ a → Open (historyOf (l ∷ ls)) a
-unfolding historyOf historyLine historyAllocate
+unfolding historyFrom historyLine historyAllocate
 allocated-open {a = a} ls k h =
-    rw (k .accepted, k .call) (open-is (historyOf ls) a .1 (h, (k .thread, rw (k .area) at (current-among (rowOf (historyOf ls) (k .thread)) (rw (k .area) h)))))
+    rw (k .accepted, k .call) (open-is (historyOf ls) a .1 (h, (k .thread, rw (k .area) at (current-among (threadRow (historyOf ls) (k .thread)) (rw (k .area) h)))))
 
 -- x was given in area a by a line of the trace; "has never been empty of threads since": after that line, and after each one that came
 -- later, the area is open, if it is a scope
@@ -289,7 +286,7 @@ since-given (stays {l = l} {ls = ls} s o) = one-newer l ls o (since-given s)
 pub since-open : {x a : ℕ} {ls : List Line} → Since x a ls → 2 ≤ a → Open (historyOf ls) a
 since-open s h = let z = since-given s in rw (z .trace) (z .always h [] (z .newer) refl)
 
--- what names an object is the handle of one that the book has, and was given for it
+-- what names an object is the handle of one that the history has, and was given for it
 pub names-is : {b : History} {ls : List Line} {x : ℕ} → Names b ls x → (a : ℕ) × Among x (handles (b .objects a)) × Given x a ls
 names-is n = (n .area, rw (n .handle) at (among-handles (n .live)), since-given (n .since))
 
@@ -297,7 +294,7 @@ names-is n = (n .area, rw (n .handle) at (among-handles (n .live)), since-given 
 
 -- "Every thread in a scope stands in all that scope's ancestors"
 pub stands-in-ancestors : {w : World} {b : History} → Claims w b → (t a c : ℕ)
-    → 2 ≤ a → 2 ≤ c → Among a (rowOf b t) → Meets (b .parents) c a → Among c (rowOf b t)
+    → 2 ≤ a → 2 ≤ c → Among a (threadRow b t) → Meets (b .parents) c a → Among c (threadRow b t)
 stands-in-ancestors k t a c h i on m =
     let z = k .order t a h (among-some on) in
     order-among (z .2) (met-among i (z .1) m)

@@ -4,8 +4,9 @@ use Prim.Native.Nat.{ℕ, zero, suc}
 use mathlib.Core.List.{List, [], _∷_, _++_}
 use mathlib.Core.Path.{_≡_, refl}
 use lib.ListN.{set}
-use Rattle.model.specs.State.{withArea}
-use Rattle.model.specs.Calls.{Call, start, end, make, enter, exit, allocate, store, load, write, read, viewed}
+use Rattle.model.specs.State.{areaAt, withGeneration, withArea}
+use Rattle.model.specs.Scopes.{lastGeneration}
+use Rattle.model.specs.Calls.{Call, start, end, make, enter, exit, allocate, store, load, write, read, viewStatus}
 use Rattle.model.specs.Run.{World}
 use Rattle.model.proofs.SampleRuns.{after, each, supplied, withState, copies, busy, inHeap, inImmortal, in2}
 
@@ -15,7 +16,7 @@ use Rattle.model.proofs.SampleRuns.{after, each, supplied, withState, c
 pub wrong : ℕ → List Call
 wrong t =
     start t 0 ∷ end t ∷ make t 64 0 ∷ enter t 64 ∷ exit t ∷ allocate t 99 99
-    ∷ store t 0 9 1 ∷ load t 0 9 ∷ write t 0 9 0 ∷ read t 0 9 ∷ viewed t 0 ∷ []
+    ∷ store t 0 9 1 ∷ load t 0 9 ∷ write t 0 9 0 ∷ read t 0 9 ∷ viewStatus t 0 ∷ []
 
 -- the scratch store is one word short
 pub short : World
@@ -52,7 +53,7 @@ heaps t (suc n) = enter t 0 ∷ heaps t n
 pub full : World
 full =
     let w : World = after busy (make 2 4 2 ∷ heaps 1 32 ++ heaps 2 29) in
-    withState w (withArea (w .state) 4 (record { start = 10; size = 2; used = 0; generation = 17592186044415; count = 0; parent = 0; depth = 0 }))
+    withState w (withArea (w .state) 4 (withGeneration (areaAt (w .state) 4) lastGeneration))
 
 -- op 04: 6 and 5; 5 and 9; 9 and 10; 9 and 17; and 9 alone. 10 and 17 never meet: one is of an open scope, the other is not.
 pub enter-meets : each full (enter 1 5 ∷ enter 3 64 ∷ enter 1 1 ∷ enter 2 2 ∷ enter 2 4 ∷ enter 2 0 ∷ []) ≡ 6 ∷ 6 ∷ 5 ∷ 9 ∷ 9 ∷ 9 ∷ []
@@ -67,7 +68,7 @@ unfolding each busy
 allocate-meets = refl
 
 -- ops 07 to 0a and the shown part: 13 and 5
-pub object-meets : each busy (store 3 1048577 9 1 ∷ load 3 1048577 9 ∷ write 3 1048577 9 0 ∷ read 3 1048577 9 ∷ viewed 3 1048577 ∷ []) ≡ copies 5 13
+pub object-meets : each busy (store 3 1048577 9 1 ∷ load 3 1048577 9 ∷ write 3 1048577 9 0 ∷ read 3 1048577 9 ∷ viewStatus 3 1048577 ∷ []) ≡ copies 5 13
 unfolding each busy
 object-meets = refl
 

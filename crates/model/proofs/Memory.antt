@@ -1,4 +1,4 @@
--- The invariant of the memory, over what is seen of it: words and start bits by area and offset, and the book's objects.
+-- The invariant of the memory, over what is seen of it: words and start bits by area and offset, and the history's objects.
 -- Assumes nothing.
 use Prim.Native.Nat.{ℕ, suc, _+_, _≤_, _<_}
 use mathlib.Core.Bool.{Bool, false}
@@ -10,10 +10,9 @@ use native.Mathlib.Omega.{arith}
 use borrow.Author.Tests.{eqb-true, eqb-false, eq-eqb, ne-eqb}
 use Rattle.layout.specs.Choice.{cases}
 use Rattle.layout.specs.Handle.{handleOf, areaOf}
-use Rattle.layout.specs.Header.{headerOf}
 use Rattle.model.specs.History.{Object, occurrences, handles, putAt}
-use Rattle.model.proofs.Lists.{occ-same, occ-other}
-use Rattle.model.proofs.Tiles.{place, Tile, Tiled, tiled-frame, tiled-store, tiled-data, tiled-push}
+use Rattle.model.proofs.Lists.{occ-more}
+use Rattle.model.proofs.Tiles.{place, IsHeader, Tile, Tiled, tiled-frame, tiled-store, tiled-data, tiled-push}
 
 -- an object of area a may refer to area c
 abbrev pub Reach : (ℕ → List ℕ) → ℕ → ℕ → Type 0
@@ -32,7 +31,7 @@ pub record Mem (dis : ℕ → List ℕ) (cnt used generation : ℕ → ℕ) (wd 
   pub tiles : (a : ℕ) → a < 64 → Tiled (wd a) (bit a) (Ok objects dis a) (λ o. handleOf o a (generation a)) (objects a) (used a)
   pub closed : (a : ℕ) → 2 ≤ a → a < 64 → cnt a ≡ 0 → objects a ≡ []
 
-pub ok-frame : (objects objects′ : ℕ → List Object) (dis dis′ : ℕ → List ℕ) (a : ℕ)
+ok-frame : (objects objects′ : ℕ → List Object) (dis dis′ : ℕ → List ℕ) (a : ℕ)
     → ((w : ℕ) → Named objects dis a w → Named objects′ dis′ a w) → (w : ℕ) → Ok objects dis a w → Ok objects′ dis′ a w
 ok-frame objects objects′ dis dis′ a f w = ⊎-elim (λ e. inl e) (λ n. inr (f w n))
 
@@ -90,43 +89,37 @@ module _ {dis : ℕ → List ℕ} {cnt used generation : ℕ → ℕ} {wd : ℕ 
     closed = m .closed;
   }
 
-  -- one word of area b is replaced, at an offset where no object starts, by one that a slot there may hold
-  pub mem-store : (b p : ℕ) (wd′ : ℕ → ℕ → ℕ) → bit b p ≡ false → Ok objects dis b (wd′ b p)
+  -- one word of area b is replaced, where its objects still lie as they should
+  mem-word : (b p : ℕ) (wd′ : ℕ → ℕ → ℕ)
+      → (b < 64 → ((j : ℕ) → j < used b → j ≢ p → wd′ b j ≡ wd b j) → Tiled (wd′ b) (bit b) (Ok objects dis b) (λ o. handleOf o b (generation b)) (objects b) (used b))
       → ((a j : ℕ) → a < 64 → j < used a → (a ≡ b → j ≡ p → ⊥) → wd′ a j ≡ wd a j) → Mem dis cnt used generation wd′ bit objects
-  mem-store b p wd′ e k f = record {
+  mem-word b p wd′ here f = record {
     tiles = λ a h. cases (eqb a b)
-        (λ q. here a h (eqb-true a b q))
+        (λ q. let k : b < 64 = rw (eqb-true a b q) at h in rw (eqb-true a b q) (here k (λ j i ne. f b j k i (λ x y. ne y))))
         (λ q. tiled-frame (wd a) (wd′ a) (bit a) (bit a) (Ok objects dis a) (Ok objects dis a) (λ o. handleOf o a (generation a)) (objects a) (used a)
         (λ j i. f a j h i (λ x y. eqb-false a b q x)) (λ j i. refl) (λ w x. x) (m .tiles a h));
     closed = m .closed;
   }
-    where
-      here : (a : ℕ) → a < 64 → a ≡ b → Tiled (wd′ a) (bit a) (Ok objects dis a) (λ o. handleOf o a (generation a)) (objects a) (used a)
-      here a h q = tiled-store (wd a) (wd′ a) (bit a) (Ok objects dis a) (λ o. handleOf o a (generation a)) p (rw q e) (rw q k) (objects a) (used a)
-          (λ j i ne. f a j h i (λ x y. ne y)) (m .tiles a h)
 
-  -- one word of area b is replaced, a data word of the object with handle h
-  pub mem-data : (b p h : ℕ) (wd′ : ℕ → ℕ → ℕ)
-      → ((o : Object) → o .handle ≡ h → wd b (place o) ≡ headerOf (o .slots) (o .words) → o .slots + o .words < 16384 → (place o + o .slots < p) × (p ≤ place o + o .slots + o .words))
-      → used b ≤ 16384 → 0 < occurrences h (handles (objects b))
+  -- at an offset where no object starts, by a word that a slot there may hold
+  pub mem-store : (b p : ℕ) (wd′ : ℕ → ℕ → ℕ) → bit b p ≡ false → Ok objects dis b (wd′ b p)
       → ((a j : ℕ) → a < 64 → j < used a → (a ≡ b → j ≡ p → ⊥) → wd′ a j ≡ wd a j) → Mem dis cnt used generation wd′ bit objects
-  mem-data b p h wd′ d y k f = record {
-    tiles = λ a l. cases (eqb a b)
-        (λ q. here a l (eqb-true a b q))
-        (λ q. tiled-frame (wd a) (wd′ a) (bit a) (bit a) (Ok objects dis a) (Ok objects dis a) (λ o. handleOf o a (generation a)) (objects a) (used a)
-        (λ j i. f a j l i (λ x y. eqb-false a b q x)) (λ j i. refl) (λ w x. x) (m .tiles a l));
-    closed = m .closed;
-  }
-    where
-      here : (a : ℕ) → a < 64 → a ≡ b → Tiled (wd′ a) (bit a) (Ok objects dis a) (λ o. handleOf o a (generation a)) (objects a) (used a)
-      here a l q = tiled-data (wd a) (wd′ a) (bit a) (Ok objects dis a) (λ o. handleOf o a (generation a)) p h (rw q d) (objects a) (used a) (rw q y)
-          (λ j i ne. f a j l i (λ x y. ne y)) (rw q k) (m .tiles a l)
+  mem-store b p wd′ e k =
+      mem-word b p wd′ (λ l f. tiled-store (wd b) (wd′ b) (bit b) (Ok objects dis b) _ p e k (objects b) (used b) f (m .tiles b l))
+
+  -- a data word of the object with handle h
+  pub mem-data : (b p h : ℕ) (wd′ : ℕ → ℕ → ℕ)
+      → ((o : Object) → o .handle ≡ h → IsHeader (wd b (place o)) o → (place o + o .slots < p) × (p ≤ place o + o .slots + o .dataWords))
+      → 0 < occurrences h (handles (objects b))
+      → ((a j : ℕ) → a < 64 → j < used a → (a ≡ b → j ≡ p → ⊥) → wd′ a j ≡ wd a j) → Mem dis cnt used generation wd′ bit objects
+  mem-data b p h wd′ d k =
+      mem-word b p wd′ (λ l f. tiled-data (wd b) (wd′ b) (bit b) (Ok objects dis b) _ p h d (objects b) (used b) f k (m .tiles b l))
 
   -- an object is made on top of area b
   pub mem-alloc : (b : ℕ) (o : Object) (used′ : ℕ → ℕ) (wd′ : ℕ → ℕ → ℕ) (bit′ : ℕ → ℕ → Bool) → b < 64
       → (2 ≤ b → 0 < cnt b)
-      → place o ≡ used b → used′ b ≡ suc (used b + o .slots + o .words) → ((a : ℕ) → a ≢ b → used′ a ≡ used a)
-      → Tile (wd′ b) (bit′ b) (λ w. w ≡ 0) (λ x. handleOf x b (generation b)) o (suc (used b + o .slots + o .words))
+      → place o ≡ used b → used′ b ≡ suc (used b + o .slots + o .dataWords) → ((a : ℕ) → a ≢ b → used′ a ≡ used a)
+      → Tile (wd′ b) (bit′ b) (λ w. w ≡ 0) (λ x. handleOf x b (generation b)) o (suc (used b + o .slots + o .dataWords))
       → ((a j : ℕ) → a < 64 → j < used a → wd′ a j ≡ wd a j) → ((a j : ℕ) → a < 64 → j < used a → bit′ a j ≡ bit a j)
       → Mem dis cnt used′ generation wd′ bit′ (putAt objects b (o ∷ objects b))
   mem-alloc b o used′ wd′ bit′ hb ob pl us uo t f g = record {
@@ -146,17 +139,12 @@ module _ {dis : ℕ → List ℕ} {cnt used generation : ℕ → ℕ} {wd : ℕ 
       names : (a w : ℕ) → Named objects dis a w → Named next dis a w
       names a w n = record {
         given = cases (eqb (areaOf w) b)
-            (λ q. rw (eqb-true (areaOf w) b q, put-same objects b (o ∷ objects b)) (more w (rw (eqb-true (areaOf w) b q) at (n .given))))
+            (λ q. rw (eqb-true (areaOf w) b q, put-same objects b (o ∷ objects b)) (occ-more w (o .handle) (handles (objects b)) (rw (eqb-true (areaOf w) b q) at (n .given))))
             (λ q. rw (put-other objects b (o ∷ objects b) (areaOf w) (eqb-false (areaOf w) b q)) (n .given));
         reach = n .reach;
       }
-        where
-          more : (w : ℕ) → 0 < occurrences w (handles (objects b)) → 0 < occurrences w (handles (o ∷ objects b))
-          more w p = cases (eqb (o .handle) w)
-              (λ d. rw (eqb-true (o .handle) w d, occ-same w (handles (objects b))) (omega arith))
-              (λ d. rw (occ-other w (o .handle) (handles (objects b)) (eqb-false (o .handle) w d)) p)
 
-      tile : Tile (wd′ b) (bit′ b) (Ok next dis b) (λ x. handleOf x b (generation b)) o (suc (used b + o .slots + o .words))
+      tile : Tile (wd′ b) (bit′ b) (Ok next dis b) (λ x. handleOf x b (generation b)) o (suc (used b + o .slots + o .dataWords))
       tile = record { made = t .made; ends = t .ends; head = t .head; on = t .on; off = t .off; refs = λ j h. inl (t .refs j h) }
 
       here : Tiled (wd′ b) (bit′ b) (Ok next dis b) (λ x. handleOf x b (generation b)) (next b) (used′ b)

@@ -1,4 +1,4 @@
--- What a sound memory says for the claims: what slots hold, that no load yields 15, and which handles the book's objects have.
+-- What a sound memory says for the claims: what slots hold, that no load yields 15, and which handles the history's objects have.
 -- Assumes nothing.
 use Prim.Native.Nat.{ℕ, suc, _+_, _≤_, _<_}
 use mathlib.Core.Bool.{Bool, true, false, not, _||_, false≢true}
@@ -12,17 +12,17 @@ use Rattle.layout.specs.Choice.{refuse, and-true}
 use Rattle.layout.specs.Handle.{null, handleOf, offsetOf, areaOf}
 use Rattle.layout.specs.Header.{slotsOf}
 use Rattle.model.specs.State.{State, Memory, displayAt, wordAt}
-use Rattle.model.specs.Checks.{fits, isStarted, admit, hasRight, headerAt, live, isObject, isReference, useStatus}
-use Rattle.model.specs.References.{wordAfter, slotStatus, referenceStatus, loadStatus}
+use Rattle.model.specs.Checks.{fits, isStarted, fitted, called, admit, hasRight, headerAt, live, isObject, isReference, useRest}
+use Rattle.model.specs.References.{wordAfter, slotRest, referenceRest, loadRest}
 use Rattle.model.specs.History.{Object, History, occurrences, handles}
 use Rattle.model.specs.Claims.{In, first, later, Within}
 use Rattle.model.proofs.Lists.{occ-same}
 use Rattle.model.proofs.Tiles.{Tile, tiled-in, handles-in, tiled-one}
 use Rattle.model.proofs.Memory.{Ok}
 use Rattle.model.proofs.Sound.{usedIn, generationIn, bitIn, Sound}
-use Rattle.model.proofs.PlacedWords.{area-inside, store-length}
+use Rattle.model.proofs.PlacedWords.{inside, store-length}
 use Rattle.model.proofs.Live.{tile-parts, given-live}
-use Rattle.model.proofs.MemoryWords.{slot-ok}
+use Rattle.model.proofs.MemoryWords.{slot-word}
 
 -- ---- objects and handles of a list
 
@@ -51,7 +51,7 @@ module _ (s : State) (m : Memory) (b : History) (o : Sound s m b) where
       → Ok (b .objects) (displayAt s) a (wordAt s m a (suc (offsetOf (x .handle) + i)))
   slot-holds a x k h i p = tile-of a x h k .1 .refs i p
 
-  pub handle-area : (a : ℕ) (x : Object) → a < 64 → In x (b .objects a) → areaOf (x .handle) ≡ a
+  handle-area : (a : ℕ) (x : Object) → a < 64 → In x (b .objects a) → areaOf (x .handle) ≡ a
   handle-area a x h i =
       let t = tile-of a x h i in
       tile-parts s m b o a h (t .1) (t .2) .0
@@ -64,7 +64,7 @@ module _ (s : State) (m : Memory) (b : History) (o : Sound s m b) where
         number = h;
         ends = omega (arith, t .1 .ends, t .2);
         used = o .good .placed .used a h;
-        inside = rw (store-length s m (o .supplied) a) (area-inside s (o .good .placed) a h);
+        inside = rw (store-length s m (o .supplied) a) (inside s (o .good .placed) a h);
       }
 
   pub one-object : (a c : ℕ) (x y : Object) → a < 64 → c < 64 → In x (b .objects a) → In y (b .objects c) → x .handle ≡ y .handle → (a ≡ c) × (x ≡ y)
@@ -87,10 +87,10 @@ module _ (s : State) (m : Memory) (b : History) (o : Sound s m b) where
   loaded p q l h = ⊎-elim
       (λ e. rw (eq-eqb (wordAfter s m p q) null e))
       (λ n. or-second (eqb (wordAfter s m p q) null) (live s m (wordAfter s m p q)) (given-live s m b o (wordAfter s m p q) (n .given)))
-      (slot-ok s m b o p l q h)
+      (slot-word s m b o p l q h)
 
-  pub no-15 : (t p q : ℕ) → loadStatus s m t p q ≢ 15
-  unfolding loadStatus slotStatus useStatus admit referenceStatus
+  pub no-15 : (t p q : ℕ) → admit s m t (loadRest s m t p q) ≢ 15
+  unfolding fitted called loadRest slotRest useRest referenceRest
   no-15 t p q =
       past-15 (not (fits s m)) 1 _ (λ x e. omega arith) (λ a.
       past-15 (leb 16 t) 2 _ (λ x e. omega arith) (λ c.

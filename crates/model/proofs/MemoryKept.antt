@@ -23,7 +23,8 @@ use Rattle.model.proofs.Nesting.{display-open}
 use Rattle.model.proofs.Memory.{Named, Kept, Bare, mem-nest, mem-frame, put-same, put-other}
 use Rattle.model.proofs.Sound.{Same, usedIn, generationIn, bitIn, Dead, Sound}
 use Rattle.model.proofs.Live.{object-tile, tile-parts}
-use Rattle.model.proofs.Alters.{Untouched, Alters, same-field}
+use Rattle.model.proofs.Parts.{Untouched}
+use Rattle.model.proofs.Alters.{Alters, same-field}
 
 -- ---- what such a call does to an area
 

@@ -13,17 +13,17 @@ use borrow.Author.Tests.{ltb-true, ltb-false, eqb-true, eqb-false}
 use Rattle.layout.specs.Choice.{cases}
 use Rattle.layout.specs.Handle.{handleOf, areaOf}
 use Rattle.layout.specs.Header.{headerOf}
-use Rattle.layout.specs.HandleLaws.{offset-packed}
+use Rattle.layout.specs.HandleLaws.{offset-packed, slots-packed, data-packed}
 use Rattle.bitmap.specs.Bitmap.{bitAt, withBit, cleared}
 use Rattle.bitmap.specs.BitmapLaws.{length-cleared, bit-with-same, bit-with-other, cleared-inside, cleared-outside}
 use Rattle.model.specs.declared.Area.{Area}
-use Rattle.model.specs.State.{State, Memory, areaAt, displayAt, storeOf, withStore, wordAt, bitIndex}
+use Rattle.model.specs.State.{State, Memory, areaAt, displayAt, storeOf, withMap, withStore, wordAt, bitIndex}
 use Rattle.model.specs.Checks.{fits}
 use Rattle.model.specs.Objects.{currentAt, grown, filled, objectWords, objectBits, allocateState, allocateMemory, allocateValue}
 use Rattle.model.specs.History.{Object, History, putAt, historyAllocate}
 use Rattle.model.specs.Invariant.{countIn, Good}
 use Rattle.model.proofs.Accepted.{AllocateOk}
-use Rattle.model.proofs.Tiles.{place, Tile}
+use Rattle.model.proofs.Tiles.{place, IsHeader, Tile}
 use Rattle.model.proofs.Memory.{mem-cong, mem-alloc, put-other}
 use Rattle.model.proofs.Sound.{Same, usedIn, generationIn, bitIn, Sound}
 use Rattle.model.proofs.PlacedWords.{size-room, used-in, one-word, one-place, word-in, bit-in, replaced, read-same, store-fits, fits-also}
@@ -54,26 +54,33 @@ filled-in l p (suc n) v k h c = cases (eqb k n)
 
 -- ---- the words of an object at a place of a store
 
-module _ (l : List ℕ) (at slots words : ℕ) where
-  length-object : length (objectWords l at slots words) ≡ length l
-  unfolding objectWords
-  length-object = length-set (filled l (suc at) (slots + words) 0) at (headerOf slots words) ∙ length-filled l (suc at) (slots + words) 0
+header-made : (slots dataWords : ℕ) → slots + dataWords < 16384 → {h : ℕ} → IsHeader (headerOf slots dataWords) (record { handle = h; slots = slots; dataWords = dataWords })
+header-made slots dataWords small = record {
+  slots = slots-packed slots dataWords (omega arith);
+  dataWords = data-packed slots dataWords (omega arith) (omega arith);
+  top = unfold headerOf in omega arith;
+}
 
-  object-other : (i : ℕ) → ((k : ℕ) → k ≤ slots + words → i ≢ at + k) → getD (objectWords l at slots words) i 0 ≡ getD l i 0
+module _ (l : List ℕ) (at slots dataWords : ℕ) where
+  length-object : length (objectWords l at slots dataWords) ≡ length l
+  unfolding objectWords
+  length-object = length-set (filled l (suc at) (slots + dataWords) 0) at (headerOf slots dataWords) ∙ length-filled l (suc at) (slots + dataWords) 0
+
+  object-other : (i : ℕ) → ((k : ℕ) → k ≤ slots + dataWords → i ≢ at + k) → getD (objectWords l at slots dataWords) i 0 ≡ getD l i 0
   unfolding objectWords
   object-other i f =
-      getD-set-other (filled l (suc at) (slots + words) 0) at i (headerOf slots words) 0 (λ e. f 0 (omega arith) (omega arith))
-      ∙ filled-other l (suc at) (slots + words) 0 i (λ k h e. f (suc k) (omega arith) (omega arith))
+      getD-set-other (filled l (suc at) (slots + dataWords) 0) at i (headerOf slots dataWords) 0 (λ e. f 0 (omega arith) (omega arith))
+      ∙ filled-other l (suc at) (slots + dataWords) 0 i (λ k h e. f (suc k) (omega arith) (omega arith))
 
-  object-head : at < length l → getD (objectWords l at slots words) at 0 ≡ headerOf slots words
+  object-head : at < length l → getD (objectWords l at slots dataWords) at 0 ≡ headerOf slots dataWords
   unfolding objectWords
-  object-head h = getD-set-same (filled l (suc at) (slots + words) 0) at (headerOf slots words) 0 (omega (arith, length-filled l (suc at) (slots + words) 0))
+  object-head h = getD-set-same (filled l (suc at) (slots + dataWords) 0) at (headerOf slots dataWords) 0 (omega (arith, length-filled l (suc at) (slots + dataWords) 0))
 
-  object-zero : (k : ℕ) → suc (at + (slots + words)) ≤ length l → k < slots + words → getD (objectWords l at slots words) (suc (at + k)) 0 ≡ 0
+  object-zero : (k : ℕ) → suc (at + (slots + dataWords)) ≤ length l → k < slots + dataWords → getD (objectWords l at slots dataWords) (suc (at + k)) 0 ≡ 0
   unfolding objectWords
   object-zero k h c =
-      getD-set-other (filled l (suc at) (slots + words) 0) at (suc (at + k)) (headerOf slots words) 0 (λ e. omega arith)
-      ∙ (ap (λ (i : ℕ). getD (filled l (suc at) (slots + words) 0) i 0) (omega arith) ∙ filled-in l (suc at) (slots + words) 0 k (omega arith) c)
+      getD-set-other (filled l (suc at) (slots + dataWords) 0) at (suc (at + k)) (headerOf slots dataWords) 0 (λ e. omega arith)
+      ∙ (ap (λ (i : ℕ). getD (filled l (suc at) (slots + dataWords) 0) i 0) (omega arith) ∙ filled-in l (suc at) (slots + dataWords) 0 k (omega arith) c)
 
 -- ---- its bits
 
@@ -108,23 +115,23 @@ length-bits map at n = length-set (cleared map (suc at) n) _ _ ∙ length-cleare
 
 -- ---- an object on top of area c, which has room for it
 
-module _ (s : State) (m : Memory) (b : History) (o : Sound s m b) (c slots words : ℕ) (hc : c < 64)
-    (rm : suc (usedIn s c + slots + words) ≤ areaAt s c .size) where
+module _ (s : State) (m : Memory) (b : History) (o : Sound s m b) (c slots dataWords : ℕ) (hc : c < 64)
+    (rm : suc (usedIn s c + slots + dataWords) ≤ areaAt s c .size) where
   abbrev n : State
-  n = allocateState s c slots words
+  n = allocateState s c slots dataWords
 
   abbrev k : Memory
-  k = allocateMemory s m c slots words
+  k = allocateMemory s m c slots dataWords
 
   abbrev made : Object
-  made = record { handle = allocateValue s c; slots = slots; words = words }
+  made = record { handle = allocateValue s c; slots = slots; dataWords = dataWords }
 
   -- the memory with the object's bits alone
   abbrev marked : Memory
-  marked = record { permanent = m .permanent; scratch = m .scratch; map = objectBits (m .map) (bitIndex s c (usedIn s c)) (slots + words) }
+  marked = withMap m (objectBits (m .map) (bitIndex s c (usedIn s c)) (slots + dataWords))
 
-  to : Alters s (allocateState s c slots words) c (grown (areaAt s c) (suc (usedIn s c + slots + words)))
-  to = allocate-alters s (o .good .areas) c hc slots words
+  to : Alters s (allocateState s c slots dataWords) c (grown (areaAt s c) (suc (usedIn s c + slots + dataWords)))
+  to = allocate-alters s (o .good .areas) c hc slots dataWords
 
   start-is : (a : ℕ) → areaAt n a .start ≡ areaAt s a .start
   start-is = same-field to (λ (x : Area). x .start) refl
@@ -132,7 +139,7 @@ module _ (s : State) (m : Memory) (b : History) (o : Sound s m b) (c slots words
   index-is : (a j : ℕ) → bitIndex n a j ≡ bitIndex s a j
   index-is a j = rw (to .lengths, start-is a)
 
-  map-is : k .map ≡ objectBits (m .map) (bitIndex s c (usedIn s c)) (slots + words)
+  map-is : k .map ≡ objectBits (m .map) (bitIndex s c (usedIn s c)) (slots + dataWords)
   unfolding allocateMemory withStore
   map-is = refl
 
@@ -140,21 +147,21 @@ module _ (s : State) (m : Memory) (b : History) (o : Sound s m b) (c slots words
   clear : (a j : ℕ) → j < usedIn s a → (i : ℕ) → (a ≡ c) × (j ≡ usedIn s c + i) → ⊥
   clear a j p i w = omega (arith, ap (usedIn s) (w .0), w .1)
 
-  words-in : suc (areaAt s c .start + usedIn s c + (slots + words)) ≤ length (storeOf m c)
-  words-in = omega (arith, word-in s m (o .good .placed) (o .supplied) c hc (usedIn s c + slots + words) rm)
+  words-in : suc (areaAt s c .start + usedIn s c + (slots + dataWords)) ≤ length (storeOf m c)
+  words-in = omega (arith, word-in s m (o .good .placed) (o .supplied) c hc (usedIn s c + slots + dataWords) rm)
 
-  bits-in : suc (bitIndex s c (usedIn s c) + (slots + words)) ≤ 64 * length (m .map)
-  bits-in = omega (arith, bit-in s m (o .good .placed) (o .supplied) c hc (usedIn s c + slots + words) rm)
+  bits-in : suc (bitIndex s c (usedIn s c) + (slots + dataWords)) ≤ 64 * length (m .map)
+  bits-in = omega (arith, bit-in s m (o .good .placed) (o .supplied) c hc (usedIn s c + slots + dataWords) rm)
 
   pub word-other : (a j : ℕ) → a < 64 → j < usedIn s a → wordAt n k a j ≡ wordAt s m a j
   unfolding allocateMemory
   word-other a j h p = rw (start-is a) (read-same marked c _ a (areaAt s a .start + j) (λ e.
-      object-other (storeOf m c) (areaAt s c .start + usedIn s c) slots words (areaAt s a .start + j) (λ i l d.
+      object-other (storeOf m c) (areaAt s c .start + usedIn s c) slots dataWords (areaAt s a .start + j) (λ i l d.
       clear a j p i (one-place s (o .good .placed) a c h hc j (usedIn s c + i) (used-in s (o .good .placed) a h j p) (omega arith) e (omega arith)))))
 
   bit-other : (a j : ℕ) → a < 64 → j < usedIn s a → bitIn n k a j ≡ bitIn s m a j
   bit-other a j h p = rw (map-is, index-is a j) (ap (λ (x : ℕ). eqb x 1)
-      (bits-other (m .map) (bitIndex s c (usedIn s c)) (slots + words) bits-in (bitIndex s a j) (λ i l d.
+      (bits-other (m .map) (bitIndex s c (usedIn s c)) (slots + dataWords) bits-in (bitIndex s a j) (λ i l d.
       clear a j p i (one-word s (o .good .placed) a c h hc j (usedIn s c + i) (used-in s (o .good .placed) a h j p) (omega arith) (omega arith)))))
 
   at-place : place made ≡ usedIn s c
@@ -162,24 +169,25 @@ module _ (s : State) (m : Memory) (b : History) (o : Sound s m b) (c slots words
   at-place = offset-packed (usedIn s c) c (generationIn s c) (omega (arith, size-room s (o .good .placed) c hc))
 
   -- the words of c, as laid
-  word-here : (j : ℕ) → wordAt n k c j ≡ getD (objectWords (storeOf m c) (areaAt s c .start + usedIn s c) slots words) (areaAt s c .start + j) 0
+  word-here : (j : ℕ) → wordAt n k c j ≡ getD (objectWords (storeOf m c) (areaAt s c .start + usedIn s c) slots dataWords) (areaAt s c .start + j) 0
   unfolding allocateMemory
-  word-here j = rw (start-is c, replaced marked c (objectWords (storeOf m c) (areaAt s c .start + usedIn s c) slots words) c refl)
+  word-here j = rw (start-is c, replaced marked c (objectWords (storeOf m c) (areaAt s c .start + usedIn s c) slots dataWords) c refl)
 
-  bit-here : (j : ℕ) → bitIn n k c j ≡ eqb (bitAt (objectBits (m .map) (bitIndex s c (usedIn s c)) (slots + words)) (bitIndex s c j)) 1
+  bit-here : (j : ℕ) → bitIn n k c j ≡ eqb (bitAt (objectBits (m .map) (bitIndex s c (usedIn s c)) (slots + dataWords)) (bitIndex s c j)) 1
   bit-here j = rw (map-is, index-is c j)
 
-  pub made-tile : Tile (wordAt n k c) (bitIn n k c) (λ y. y ≡ 0) (λ y. handleOf y c (generationIn s c)) made (suc (usedIn s c + slots + words))
+  pub made-tile : Tile (wordAt n k c) (bitIn n k c) (λ y. y ≡ 0) (λ y. handleOf y c (generationIn s c)) made (suc (usedIn s c + slots + dataWords))
   made-tile = record {
     made = value ∙ ap (λ (y : ℕ). handleOf y c (generationIn s c)) (sym at-place);
-    ends = ap (λ (y : ℕ). suc (y + slots + words)) at-place;
-    head = rw at-place (word-here (usedIn s c) ∙ object-head (storeOf m c) (areaAt s c .start + usedIn s c) slots words (omega (arith, words-in)));
-    on = rw at-place (bit-here (usedIn s c) ∙ ap (λ (x : ℕ). eqb x 1) (bits-head (m .map) (bitIndex s c (usedIn s c)) (slots + words) bits-in));
+    ends = ap (λ (y : ℕ). suc (y + slots + dataWords)) at-place;
+    head = rw (at-place, word-here (usedIn s c), object-head (storeOf m c) (areaAt s c .start + usedIn s c) slots dataWords (omega (arith, words-in)))
+        (header-made slots dataWords (omega (arith, size-room s (o .good .placed) c hc)));
+    on = rw at-place (bit-here (usedIn s c) ∙ ap (λ (x : ℕ). eqb x 1) (bits-head (m .map) (bitIndex s c (usedIn s c)) (slots + dataWords) bits-in));
     off = λ j p q. bit-here j ∙ ap (λ (x : ℕ). eqb x 1)
-        (bits-inside (m .map) (bitIndex s c (usedIn s c)) (slots + words) bits-in (bitIndex s c j) (omega (arith, at-place)) (omega arith));
+        (bits-inside (m .map) (bitIndex s c (usedIn s c)) (slots + dataWords) bits-in (bitIndex s c j) (omega (arith, at-place)) (omega arith));
     refs = λ j p. rw at-place (word-here (suc (usedIn s c + j))
-        ∙ ap (λ (i : ℕ). getD (objectWords (storeOf m c) (areaAt s c .start + usedIn s c) slots words) i 0) (omega arith)
-        ∙ object-zero (storeOf m c) (areaAt s c .start + usedIn s c) slots words j words-in (omega arith));
+        ∙ ap (λ (i : ℕ). getD (objectWords (storeOf m c) (areaAt s c .start + usedIn s c) slots dataWords) i 0) (omega arith)
+        ∙ object-zero (storeOf m c) (areaAt s c .start + usedIn s c) slots dataWords j words-in (omega arith));
   }
     where
       value : allocateValue s c ≡ handleOf (usedIn s c) c (generationIn s c)
@@ -193,18 +201,18 @@ module _ (s : State) (m : Memory) (b : History) (o : Sound s m b) (c slots words
 
   display-is : (a : ℕ) → displayAt n a ≡ displayAt s a
   unfolding displayAt
-  display-is a = rw (allocate-rows s (o .good .areas) c hc slots words a, same-field to (λ (x : Area). x .depth) refl a)
+  display-is a = rw (allocate-rows s c slots dataWords a, same-field to (λ (x : Area). x .depth) refl a)
 
   fits-then : fits n k ≡ true
   unfolding fits allocateMemory
-  fits-then = rw (to .lengths) (store-fits marked c (objectWords (storeOf m c) (areaAt s c .start + usedIn s c) slots words) s
-      (fits-also s m (o .supplied) marked refl refl (length-bits (m .map) (bitIndex s c (usedIn s c)) (slots + words)))
-      (length-object (storeOf m c) (areaAt s c .start + usedIn s c) slots words))
+  fits-then = rw (to .lengths) (store-fits marked c (objectWords (storeOf m c) (areaAt s c .start + usedIn s c) slots dataWords) s
+      (fits-also s m (o .supplied) marked refl refl (length-bits (m .map) (bitIndex s c (usedIn s c)) (slots + dataWords)))
+      (length-object (storeOf m c) (areaAt s c .start + usedIn s c) slots dataWords))
 
-  -- with a book that has it first among the objects of c
-  sound-made : (d : History) → Good (allocateState s c slots words) → Same (allocateState s c slots words) d → (2 ≤ c → 0 < countIn s c)
-      → d .objects ≡ putAt (b .objects) c (record { handle = allocateValue s c; slots = slots; words = words } ∷ b .objects c) → d .gone ≡ b .gone
-      → Sound (allocateState s c slots words) (allocateMemory s m c slots words) d
+  -- with a history that has it first among the objects of c
+  sound-made : (d : History) → Good (allocateState s c slots dataWords) → Same (allocateState s c slots dataWords) d → (2 ≤ c → 0 < countIn s c)
+      → d .objects ≡ putAt (b .objects) c (record { handle = allocateValue s c; slots = slots; dataWords = dataWords } ∷ b .objects c) → d .gone ≡ b .gone
+      → Sound (allocateState s c slots dataWords) (allocateMemory s m c slots dataWords) d
   sound-made d g i oc eo eg = record {
     good = g;
     same = i;
@@ -217,16 +225,16 @@ module _ (s : State) (m : Memory) (b : History) (o : Sound s m b) (c slots words
     above = rw eo (λ a h. put-other (b .objects) c _ a (λ e. omega arith) ∙ o .above a h);
   }
 
-module _ (s : State) (m : Memory) (b : History) (o : Sound s m b) (t slots words : ℕ) (ok : AllocateOk s m t slots words) where
+module _ (s : State) (m : Memory) (b : History) (o : Sound s m b) (t slots dataWords : ℕ) (ok : AllocateOk s t slots dataWords) where
   abbrev next : History
-  next = historyAllocate b t (record { handle = allocateValue s (currentAt s t); slots = slots; words = words })
+  next = historyAllocate b t (record { handle = allocateValue s (currentAt s t); slots = slots; dataWords = dataWords })
 
-  pub sound-allocate : Good (allocateState s (currentAt s t) slots words) → Same (allocateState s (currentAt s t) slots words) next
-      → Sound (allocateState s (currentAt s t) slots words) (allocateMemory s m (currentAt s t) slots words) next
-  sound-allocate g i = sound-made s m b o (currentAt s t) slots words (current-area s (o .good) t (ok .called .thread)) (ok .room) next g i
+  pub sound-allocate : Good (allocateState s (currentAt s t) slots dataWords) → Same (allocateState s (currentAt s t) slots dataWords) next
+      → Sound (allocateState s (currentAt s t) slots dataWords) (allocateMemory s m (currentAt s t) slots dataWords) next
+  sound-allocate g i = sound-made s m b o (currentAt s t) slots dataWords (current-area s (o .good) t (ok .called .thread)) (ok .room) next g i
       (current-open s (o .good) t (ok .called .thread)) objects-are gone-are
     where
-      objects-are : next .objects ≡ putAt (b .objects) (currentAt s t) (record { handle = allocateValue s (currentAt s t); slots = slots; words = words } ∷ b .objects (currentAt s t))
+      objects-are : next .objects ≡ putAt (b .objects) (currentAt s t) (record { handle = allocateValue s (currentAt s t); slots = slots; dataWords = dataWords } ∷ b .objects (currentAt s t))
       objects-are = unfold historyAllocate in rw (← (stacks s b (o .good) (o .same) t))
 
       gone-are : next .gone ≡ b .gone

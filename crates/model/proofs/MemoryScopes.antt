@@ -5,21 +5,19 @@ use mathlib.Core.Bool.{true, false}
 use mathlib.Core.List.{List, [], _∷_, _++_}
 use mathlib.Core.Path.{_≡_, refl, sym, ap, _∙_}
 use lib.ListN.{set}
-use lib.Dec.{leb, ltb}
 use native.Mathlib.Omega.{arith}
-use borrow.Author.Tests.{ltb-true, ltb-false, leb-true, leb-false, le-leb, lt-leb, eq-eqb, ne-eqb}
-use Rattle.layout.specs.Choice.{cases}
+use borrow.Author.Tests.{le-leb, lt-leb, eq-eqb, ne-eqb}
 use Rattle.model.specs.declared.Area.{Area}
-use Rattle.model.specs.State.{State, Memory, areaAt, threadAt, stackOf, stackAt, current, innermost}
+use Rattle.model.specs.State.{State, Memory, areaAt, threadAt, entriesOf, stackAt, current}
 use Rattle.model.specs.Threads.{startState, endState}
-use Rattle.model.specs.Scopes.{madeArea, makeState, reentered, opened, enterState, left, popped, exitState}
-use Rattle.model.specs.History.{History, rowOf, total, handles, putAt, isScopeOnNone, historyStart, historyEnter, historyExit}
+use Rattle.model.specs.Scopes.{madeArea, makeState, reentered, enterState, left, popped, exitState}
+use Rattle.model.specs.History.{History, threadRow, total, handles, putAt, isScopeOnNone, historyStart, historyEnter, historyExit}
 use Rattle.model.specs.Invariant.{countIn, Good}
 use Rattle.model.proofs.Accepted.{MakeOk, EnterOk, ExitOk}
 use Rattle.model.proofs.Sound.{Same, Sound}
-use Rattle.model.proofs.Bounds.{current-area}
+use Rattle.model.proofs.Bounds.{by-area, current-area}
 use Rattle.model.proofs.Agrees.{row-top, left-count}
-use Rattle.model.proofs.Alters.{Stays, Alters, start-stays, end-stays, enter-low, exit-low, make-alters, make-rows, open-alters, open-rows, fresh-alters, left-alters, left-rows}
+use Rattle.model.proofs.Alters.{Stays, Alters, start-stays, end-stays, make-alters, make-rows, freshArea, enter-stays, open-rows, open-alters, fresh-alters, by-left, exit-stays, exit-rows, left-alters}
 use Rattle.model.proofs.MemoryKept.{Moved, moved-same, still-same, moved-all, still-all, count-all, sound-still, sound-opens, sound-shuts}
 
 module _ (s : State) (m : Memory) (b : History) (o : Sound s m b) where
@@ -37,9 +35,9 @@ module _ (s : State) (m : Memory) (b : History) (o : Sound s m b) where
   sound-end t g i = stays-sound (endState s t) (historyStart b t false) g i (end-stays s t) refl refl
 
   -- an area of no words has none used, so it may lie elsewhere
-  pub sound-make : (t q r : ℕ) → MakeOk s m t q r → Good (makeState s q r) → Same (makeState s q r) b → Sound (makeState s q r) m b
+  pub sound-make : (t q r : ℕ) → MakeOk s t q r → Good (makeState s q r) → Same (makeState s q r) b → Sound (makeState s q r) m b
   sound-make t q r k g i = sound-still s m b o (makeState s q r) b g i (to .lengths) (moved-all to moves) refl refl
-      (still-all to (make-rows s (o .good .areas) q (k .area) r) refl refl refl) (count-all to (λ z. z))
+      (still-all to (make-rows s q r) refl refl refl) (count-all to (λ z. z))
     where
       to : Alters s (makeState s q r) q (madeArea (areaAt s q) (s .taken) r)
       to = make-alters s (o .good .areas) q (k .area) r
@@ -51,7 +49,7 @@ module _ (s : State) (m : Memory) (b : History) (o : Sound s m b) where
         fresh = λ p z. absurd (omega arith);
       }
 
-  module _ (t q : ℕ) (k : EnterOk s m t q) (g : Good (enterState s t q)) (i : Same (enterState s t q) (historyEnter b t q)) where
+  module _ (t q : ℕ) (k : EnterOk s t q) (g : Good (enterState s t q)) (i : Same (enterState s t q) (historyEnter b t q)) where
     objects-same : historyEnter b t q .objects ≡ b .objects
     unfolding historyEnter
     objects-same = refl
@@ -63,40 +61,39 @@ module _ (s : State) (m : Memory) (b : History) (o : Sound s m b) where
     sound-open : 2 ≤ q → 0 < countIn s q → Sound (enterState s t q) m (historyEnter b t q)
     sound-open h c = sound-still s m b o (enterState s t q) (historyEnter b t q) g i (to .lengths)
         (moved-all to record { start = λ p. refl; later = omega arith; fresh = λ p z. absurd (omega arith) }) objects-same gone-same
-        (still-all to (open-rows s (o .good .areas) q (k .area) t h c) refl refl refl) (count-all to (λ z. absurd (omega arith)))
+        (still-all to (open-rows s t q h c) refl refl refl) (count-all to (λ z. absurd (omega arith)))
       where
         to : Alters s (enterState s t q) q (reentered (areaAt s q))
-        to = open-alters s (o .good .areas) q (k .area) t h c
+        to = open-alters s t q (o .good .areas) (k .area) h c
 
     sound-fresh : 2 ≤ q → countIn s q ≡ 0 → Sound (enterState s t q) m (historyEnter b t q)
     sound-fresh h c = sound-opens s m b o (enterState s t q) (historyEnter b t q) g i (to .lengths)
         (moved-all to record { start = λ p. refl; later = omega arith; fresh = λ p z. omega arith }) objects-same gone-same
         q h (k .area) c (ap (λ (x : Area). x .used) (to .here)) (to .others)
       where
-        to : Alters s (enterState s t q) q (opened (areaAt s q) (innermost (stackAt s t)) (areaAt s (innermost (stackAt s t)) .depth))
-        to = fresh-alters s (o .good .areas) q (k .area) t h c
+        to : Alters s (enterState s t q) q (freshArea s t q)
+        to = fresh-alters s t q (o .good .areas) (k .area) h c
 
     pub sound-enter : Sound (enterState s t q) m (historyEnter b t q)
-    sound-enter = cases (leb 2 q)
-        (λ d. cases (ltb 0 (countIn s q))
-        (λ c. sound-open (leb-true 2 q d) (ltb-true 0 (countIn s q) c))
-        (λ c. sound-fresh (leb-true 2 q d) (omega (arith, ltb-false 0 (countIn s q) c))))
-        (λ d. stays-sound (enterState s t q) (historyEnter b t q) g i (enter-low s t q (leb-false 2 q d)) objects-same gone-same)
+    sound-enter = by-area s q
+        (λ h. stays-sound (enterState s t q) (historyEnter b t q) g i (enter-stays s t q h) objects-same gone-same)
+        sound-fresh
+        sound-open
 
-  module _ (t : ℕ) (k : ExitOk s m t) (g : Good (exitState s t)) (i : Same (exitState s t) (historyExit b t)) where
+  module _ (t : ℕ) (k : ExitOk s t) (g : Good (exitState s t)) (i : Same (exitState s t) (historyExit b t)) where
     abbrev top : ℕ
     top = current (stackAt s t)
 
     abbrev rest : List (List ℕ)
-    rest = set (b .rows) t (stackOf (popped (threadAt s t)))
+    rest = set (b .rows) t (entriesOf (popped (threadAt s t)))
 
-    row : rowOf b t ≡ top ∷ stackOf (popped (threadAt s t))
-    row = row-top s m t (o .good) k b (o .same)
+    row : threadRow b t ≡ top ∷ entriesOf (popped (threadAt s t))
+    row = row-top s t (o .good) k b (o .same)
 
     area : top < 64
     area = current-area s (o .good) t (k .called .thread)
 
-    -- what the book does where the top is on no row then, and where it is
+    -- what the history does where the top is on no row then, and where it is
     history-drops : isScopeOnNone top rest ≡ true → (historyExit b t .objects ≡ putAt (b .objects) top []) × (historyExit b t .gone ≡ handles (b .objects top) ++ b .gone)
     unfolding historyExit
     history-drops e = (rw (row, e), rw (row, e))
@@ -108,14 +105,14 @@ module _ (s : State) (m : Memory) (b : History) (o : Sound s m b) where
     sound-low : top < 2 → Sound (exitState s t) m (historyExit b t)
     sound-low h =
         let y = history-keeps (rw (lt-leb 2 top h)) in
-        stays-sound (exitState s t) (historyExit b t) g i (exit-low s t h) (y .0) (y .1)
+        stays-sound (exitState s t) (historyExit b t) g i (exit-stays s t h) (y .0) (y .1)
 
     module _ (h : 2 ≤ top) where
       count : suc (total top rest) ≡ countIn s top
-      count = left-count s m t (o .good) k b (o .same) h
+      count = left-count s t (o .good) k b (o .same) h
 
       to : Alters s (exitState s t) top (left (areaAt s top))
-      to = left-alters s (o .good .areas) t h area
+      to = left-alters s t (o .good .areas) area h
 
       moves : (a : ℕ) → Moved (areaAt s a) (areaAt (exitState s t) a)
       moves = moved-all to record { start = λ p. refl; later = omega arith; fresh = λ p z. absurd (omega (arith, count)) }
@@ -125,7 +122,7 @@ module _ (s : State) (m : Memory) (b : History) (o : Sound s m b) where
       sound-more c =
           let y = history-keeps (rw (le-leb 2 top h) (ne-eqb (total top rest) 0 (λ z. omega (arith, count)))) in
           sound-still s m b o (exitState s t) (historyExit b t) g i (to .lengths) moves (y .0) (y .1)
-          (still-all to (left-rows s (o .good .areas) t h area) (rw (lt-leb (countIn s top) 1 c)) refl (rw (lt-leb (countIn s top) 1 c)))
+          (still-all to (exit-rows s t) (rw (lt-leb (countIn s top) 1 c)) refl (rw (lt-leb (countIn s top) 1 c)))
           (count-all to (λ z. absurd (more z)))
         where
           more : pred (countIn s top) ≡ 0 → ⊥
@@ -144,8 +141,4 @@ module _ (s : State) (m : Memory) (b : History) (o : Sound s m b) where
           none = omega arith
 
     pub sound-exit : Sound (exitState s t) m (historyExit b t)
-    sound-exit = cases (leb 2 top)
-        (λ d. cases (leb (countIn s top) 1)
-        (λ c. sound-last (leb-true 2 top d) (leb-true (countIn s top) 1 c))
-        (λ c. sound-more (leb-true 2 top d) (leb-false (countIn s top) 1 c)))
-        (λ d. sound-low (leb-false 2 top d))
+    sound-exit = by-left s t sound-low sound-last sound-more

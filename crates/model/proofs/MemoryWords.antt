@@ -11,8 +11,8 @@ use native.Mathlib.Omega.{arith}
 use borrow.Author.Tests.{ltb-true, ltb-false, leb-true, eqb-true}
 use Rattle.layout.specs.Choice.{cases, and-true}
 use Rattle.layout.specs.Handle.{null, offsetOf, areaOf}
-use Rattle.layout.specs.Header.{headerOf, slotsOf, dataOf}
-use Rattle.layout.specs.HandleLaws.{area-lt, slots-packed, data-packed}
+use Rattle.layout.specs.Header.{slotsOf, dataOf}
+use Rattle.layout.specs.HandleLaws.{area-lt}
 use Rattle.display.specs.Display.{rowHolds}
 use Rattle.display.specs.DisplayLaws.{holds-entry}
 use Rattle.model.specs.State.{State, Memory, areaAt, rowAt, displayAt, displayHolds, storeOf, withStore, wordAt}
@@ -22,10 +22,10 @@ use Rattle.model.specs.Data.{dataIndex}
 use Rattle.model.specs.History.{Object, History, occurrences, handles}
 use Rattle.model.specs.Invariant.{parentIn, countIn}
 use Rattle.model.proofs.Walks.{occ-down}
-use Rattle.model.proofs.Tiles.{place}
+use Rattle.model.proofs.Tiles.{place, IsHeader}
 use Rattle.model.proofs.Memory.{Reach, Ok, Mem, mem-store, mem-data}
 use Rattle.model.proofs.Sound.{usedIn, generationIn, bitIn, Sound}
-use Rattle.model.proofs.PlacedWords.{room, used-in, one-place, word-in, replaced, read-same, store-fits}
+use Rattle.model.proofs.PlacedWords.{used-in, one-place, word-in, replaced, read-same, store-fits}
 use Rattle.model.proofs.Live.{live-given, given-tile, given-place, given-ends, given-head}
 
 -- ---- one used word is replaced
@@ -81,15 +81,15 @@ module _ (s : State) (m : Memory) (b : History) (o : Sound s m b) (p : ℕ) (lv 
   -- a slot, where it lies and what it holds
   module _ (i : ℕ) (h : i < slotsOf (headerAt s m p)) where
     slot-in : suc (offsetOf p + i) < usedIn s (areaOf p)
-    slot-in = omega (arith, given-head s m b o p given .0, given-ends s m b o p given)
+    slot-in = omega (arith, given-head s m b o p given .slots, given-ends s m b o p given)
 
     slot-off : bitIn s m (areaOf p) (suc (offsetOf p + i)) ≡ false
     slot-off =
         let t = given-tile s m b o p given in
-        t .3 .off (suc (offsetOf p + i)) (omega (arith, given-place s m b o p given)) (omega (arith, t .3 .ends, given-head s m b o p given .0, given-place s m b o p given))
+        t .3 .off (suc (offsetOf p + i)) (omega (arith, given-place s m b o p given)) (omega (arith, t .3 .ends, given-head s m b o p given .slots, given-place s m b o p given))
 
-    pub slot-ok : Ok (b .objects) (displayAt s) (areaOf p) (wordAfter s m p i)
-    slot-ok = rw (← given-place s m b o p given) (given-tile s m b o p given .3 .refs i (omega (arith, given-head s m b o p given .0)))
+    pub slot-word : Ok (b .objects) (displayAt s) (areaOf p) (wordAfter s m p i)
+    slot-word = rw (← given-place s m b o p given) (given-tile s m b o p given .3 .refs i (omega (arith, given-head s m b o p given .slots)))
 
     pub sound-store : (r : ℕ) → isReference s m r ≡ true → eqb r null || mayRefer s (areaOf p) (areaOf r) ≡ true → Sound s (storeAfter s m p i r) b
     unfolding storeAfter
@@ -106,21 +106,19 @@ module _ (s : State) (m : Memory) (b : History) (o : Sound s m b) (p : ℕ) (lv 
   -- a data word
   module _ (i : ℕ) (h : i < dataOf (headerAt s m p)) where
     data-in : suc (offsetOf p + dataIndex s m p i) < usedIn s (areaOf p)
-    data-in = omega (arith, given-head s m b o p given .0, given-head s m b o p given .1, given-ends s m b o p given)
+    data-in = omega (arith, given-head s m b o p given .slots, given-head s m b o p given .dataWords, given-ends s m b o p given)
 
     pub sound-write : (r : ℕ) → Sound s (storeAfter s m p (dataIndex s m p i) r) b
     unfolding storeAfter
     sound-write r = sound-put s m b o (areaOf p) (suc (offsetOf p + dataIndex s m p i)) r (area-lt p) data-in
         (mem-data (o .memory) (areaOf p) (suc (offsetOf p + dataIndex s m p i)) p (wordAt s (wordPut s m (areaOf p) (suc (offsetOf p + dataIndex s m p i)) r))
-        among (room s (o .good .placed) (areaOf p) (area-lt p)) given
+        among given
         (put-other-word s m b o (areaOf p) (suc (offsetOf p + dataIndex s m p i)) r (area-lt p) data-in))
       where
         -- it lies among the data words of every object with that handle
-        among : (x : Object) → x .handle ≡ p → wordAt s m (areaOf p) (place x) ≡ headerOf (x .slots) (x .words) → x .slots + x .words < 16384
-            → (place x + x .slots < suc (offsetOf p + dataIndex s m p i)) × (suc (offsetOf p + dataIndex s m p i) ≤ place x + x .slots + x .words)
-        among x e hd sm =
+        among : (x : Object) → x .handle ≡ p → IsHeader (wordAt s m (areaOf p) (place x)) x
+            → (place x + x .slots < suc (offsetOf p + dataIndex s m p i)) × (suc (offsetOf p + dataIndex s m p i) ≤ place x + x .slots + x .dataWords)
+        among x e hd =
             let at : place x ≡ offsetOf p = ap offsetOf e in
-            let f : headerAt s m p ≡ headerOf (x .slots) (x .words) = ap (wordAt s m (areaOf p)) (sym at) ∙ hd in
-            let ns : slotsOf (headerAt s m p) ≡ x .slots = ap slotsOf f ∙ slots-packed (x .slots) (x .words) (omega arith) in
-            let nd : dataOf (headerAt s m p) ≡ x .words = ap dataOf f ∙ data-packed (x .slots) (x .words) (omega arith) (omega arith) in
-            omega arith
+            let is : IsHeader (headerAt s m p) x = rw at at hd in
+            omega (arith, is .slots, is .dataWords)

@@ -14,43 +14,44 @@ use Rattle.display.specs.Display.{rowHolds}
 use Rattle.layout.specs.Stack.{down}
 use Rattle.layout.specs.StackLaws.{length-down}
 use Rattle.model.specs.declared.Area.{Area}
-use Rattle.model.specs.State.{Thread, State, noArea, noThread, areaAt, rowAt, threadAt, stackOf, stackAt, isOpen, displayAt, displayHolds}
+use Rattle.model.specs.State.{Thread, State, noArea, noThread, areaAt, rowAt, threadAt, entriesOf, stackAt, isOpen, displayAt, displayHolds}
 use Rattle.model.specs.Checks.{isStarted}
-use Rattle.model.specs.History.{History, rowOf, occurrences}
+use Rattle.model.specs.History.{History, threadRow, occurrences}
 use Rattle.model.specs.Claims.{Open, Walk, Meets, InOrder, scan}
-use Rattle.model.specs.Invariant.{scopesOf, Nested, Nesting, countIn, Good}
-use Rattle.model.proofs.Walks.{walk-is, meets-occ, occ-meets, row-at, scan-is, down-at, occ-down}
+use Rattle.model.specs.Invariant.{Nested, Nesting, countIn, Good}
+use Rattle.model.proofs.Nesting.{Chain, row-at, StandsOn, stands-on}
+use Rattle.model.proofs.Walks.{walk-is, meets-occ, occ-meets, scan-is, down-at, occ-down}
 use Rattle.model.proofs.Sound.{Same}
 use Rattle.model.proofs.Parts.{stack-is, nesting-same}
-use Rattle.model.proofs.Bounds.{StandsOn, stands-on, by-area}
+use Rattle.model.proofs.Bounds.{by-area}
 
 module _ (s : State) (b : History) (g : Good s) (e : Same s b) where
-  -- the nesting of the core, with the book's parents and rows
+  -- the nesting of the core, with the history's parents and rows
   pub history-nesting : Nesting (b .parents) (displayAt s) (countIn s) (b .rows)
   history-nesting = nesting-same (g .nesting) (λ a. (sym (e .parents a), refl)) (λ a. refl) (sym (e .rows))
 
-  -- the scopes of every row are nested, also of a row that is not there
-  row-nested : (t : ℕ) → Nested (b .parents) (displayAt s) (scopesOf (rowOf b t))
+  -- every row is nested, also one that is not there
+  row-nested : (t : ℕ) → Nested (b .parents) (displayAt s) (threadRow b t)
   row-nested t = cases (ltb t 16)
       (λ d. history-nesting .nested t (ltb-true t 16 d))
-      (λ d. rw (List·getD-eq-default (b .rows) [] {n = t} (omega (arith, ltb-false t 16 d, history-nesting .size))) (unfold scopesOf in tt))
+      (λ d. rw (List·getD-eq-default (b .rows) [] {n = t} (omega (arith, ltb-false t 16 d, history-nesting .size))) tt)
 
-  -- an open scope, with the scopes below it on some row
-  pub open-at : (a : ℕ) → Open b a → (k : List ℕ) × Nested (b .parents) (displayAt s) (a ∷ k)
+  -- an open scope, with the branch below it on some row
+  open-at : (a : ℕ) → Open b a → (k : List ℕ) × Chain (b .parents) (displayAt s) (a ∷ k)
   open-at a o =
       let z : StandsOn (b .parents) (displayAt s) (b .rows) a = stands-on history-nesting a (o .0) (o .1) in
-      (z .below, z .nested)
+      (z .branch, z .chain)
 
   -- there are 64 areas
   past : (a : ℕ) → 64 ≤ a → areaAt s a ≡ noArea
   past a h = List·getD-eq-default (s .areas) noArea {n = a} (omega (arith, g .areas))
 
-  -- ---- the book's things
+  -- ---- the history's things
 
   pub started : (t : ℕ) → isStarted s t ≡ b .started t
   started = e .started
 
-  pub stacks : (t : ℕ) → stackAt s t ≡ rowOf b t
+  pub stacks : (t : ℕ) → stackAt s t ≡ threadRow b t
   stacks t = sym (stack-is s t) ∙ ap (λ (r : List (List ℕ)). getD r t []) (e .rows)
 
   pub parents : (a : ℕ) → areaAt s a .parent ≡ b .parents a
@@ -99,25 +100,25 @@ module _ (s : State) (b : History) (g : Good s) (e : Same s b) where
       (λ d. let k = g .threads .each t (ltb-true t 16 d) in omega (arith, k .fits, k .room))
       (λ d. omega (arith, ap (λ (h : Thread). h .len) (no-thread t d)))
 
-  pub heights : (t : ℕ) → length (rowOf b t) ≤ 32
+  pub heights : (t : ℕ) → length (threadRow b t) ≤ 32
   heights t = rw (← stacks t) (cases (ltb t 16)
       (λ d. let k = g .threads .each t (ltb-true t 16 d) in omega (arith, height, k .fits))
       (λ d. omega (arith, height, ap (λ (h : Thread). h .len) (no-thread t d))))
     where
       height : length (stackAt s t) ≡ threadAt s t .len
-      height = unfold stackOf in length-down (threadAt s t .entries) (threadAt s t .len)
+      height = unfold entriesOf in length-down (threadAt s t .entries) (threadAt s t .len)
 
   -- ---- walks
 
-  pub order : (t a : ℕ) → 2 ≤ a → 0 < occurrences a (rowOf b t) → (l : List ℕ) × Walk (b .parents) a l × InOrder l (rowOf b t)
+  pub order : (t a : ℕ) → 2 ≤ a → 0 < occurrences a (threadRow b t) → (l : List ℕ) × Walk (b .parents) a l × InOrder l (threadRow b t)
   order t a h p =
-      let z : (l : List ℕ) × Nested (b .parents) (displayAt s) (a ∷ l) × InOrder (a ∷ l) (rowOf b t)
-      = row-at (b .parents) (displayAt s) a h (rowOf b t) (row-nested t) p in
+      let z : (l : List ℕ) × Chain (b .parents) (displayAt s) (a ∷ l) × InOrder (a ∷ l) (threadRow b t)
+      = row-at (b .parents) (displayAt s) a h (threadRow b t) (row-nested t) p in
       (a ∷ z .0, walk-is (b .parents) (displayAt s) (a ∷ z .0) (z .1), z .2)
 
   pub displays : (a : ℕ) → Open b a → Walk (b .parents) a (displayAt s a)
   displays a o =
-      let n : (k : List ℕ) × Nested (b .parents) (displayAt s) (a ∷ k) = open-at a o in
+      let n : (k : List ℕ) × Chain (b .parents) (displayAt s) (a ∷ k) = open-at a o in
       subst (Walk (b .parents) a) (sym (n .1 .0 .display-is)) (walk-is (b .parents) (displayAt s) (a ∷ n .0) (n .1))
 
   -- ---- the display
@@ -131,10 +132,10 @@ module _ (s : State) (b : History) (g : Good s) (e : Same s b) where
       (omega (arith, ltb-true 0 (areaAt s a .depth) (k .0), leb-true (areaAt s a .depth) (areaAt s c .depth) (f .0)))
       (eqb-true (getD (rowAt s c) (areaAt s a .depth - 1) 0) a (k .1))
 
-  occ-display : (a c : ℕ) → 2 ≤ a → Nested (b .parents) (displayAt s) (displayAt s c) → 0 < occurrences a (displayAt s c) → displayHolds s a c ≡ true
+  occ-display : (a c : ℕ) → 2 ≤ a → Chain (b .parents) (displayAt s) (displayAt s c) → 0 < occurrences a (displayAt s c) → displayHolds s a c ≡ true
   unfolding displayHolds rowHolds displayAt
   occ-display a c h n q =
-      let z : (j : List ℕ) × Nested (b .parents) (displayAt s) (a ∷ j) × (getD (rowAt s c) (length j) 0 ≡ a) × (length j < areaAt s c .depth)
+      let z : (j : List ℕ) × Chain (b .parents) (displayAt s) (a ∷ j) × (getD (rowAt s c) (length j) 0 ≡ a) × (length j < areaAt s c .depth)
       = down-at (b .parents) (displayAt s) a h (rowAt s c) (areaAt s c .depth) n q in
       let d : areaAt s a .depth ≡ suc (length (z .0)) = sym (length-down (rowAt s a) (areaAt s a .depth)) ∙ ap length (z .1 .0 .display-is) in
       let p : areaAt s a .depth - 1 ≡ length (z .0) = omega arith in
@@ -142,13 +143,13 @@ module _ (s : State) (b : History) (g : Good s) (e : Same s b) where
 
   pub looks : (a c : ℕ) → 2 ≤ a → Open b c → (displayHolds s a c ≡ true) ↔ (0 < occurrences a (displayAt s c))
   looks a c h o =
-      let n : (k : List ℕ) × Nested (b .parents) (displayAt s) (c ∷ k) = open-at c o in
-      (display-occ a c h, occ-display a c h (subst (Nested (b .parents) (displayAt s)) (sym (n .1 .0 .display-is)) (n .1)))
+      let n : (k : List ℕ) × Chain (b .parents) (displayAt s) (c ∷ k) = open-at c o in
+      (display-occ a c h, occ-display a c h (subst (Chain (b .parents) (displayAt s)) (sym (n .1 .0 .display-is)) (n .1)))
 
   -- one look into the display says whether the scope stands on it
-  verdict : (a c : ℕ) → 2 ≤ a → (k : List ℕ) → Nested (b .parents) (displayAt s) (c ∷ k) → displayHolds s a c ≡ ltb 0 (occurrences a (c ∷ k))
+  verdict : (a c : ℕ) → 2 ≤ a → (k : List ℕ) → Chain (b .parents) (displayAt s) (c ∷ k) → displayHolds s a c ≡ ltb 0 (occurrences a (c ∷ k))
   verdict a c h k n = cases (ltb 0 (occurrences a (c ∷ k)))
-      (λ o. rw o (occ-display a c h (subst (Nested (b .parents) (displayAt s)) (sym is) n) (rw is (ltb-true 0 (occurrences a (c ∷ k)) o))))
+      (λ o. rw o (occ-display a c h (subst (Chain (b .parents) (displayAt s)) (sym is) n) (rw is (ltb-true 0 (occurrences a (c ∷ k)) o))))
       (λ o. rw o (cases (displayHolds s a c)
       (λ d. absurd (omega (arith, ltb-false 0 (occurrences a (c ∷ k)) o, display-occ a c h d, ap (occurrences a) is)))
       (λ d. d)))
@@ -158,13 +159,13 @@ module _ (s : State) (b : History) (g : Good s) (e : Same s b) where
 
   pub walked : (a c : ℕ) → Open b a → Open b c → (displayHolds s a c ≡ true) ↔ Meets (b .parents) a c
   walked a c o p =
-      let n : (k : List ℕ) × Nested (b .parents) (displayAt s) (c ∷ k) = open-at c p in (
+      let n : (k : List ℕ) × Chain (b .parents) (displayAt s) (c ∷ k) = open-at c p in (
         λ d. occ-meets (b .parents) (displayAt s) a (o .0) (c ∷ n .0) (n .1) (ltb-true 0 (occurrences a (c ∷ n .0)) (sym (verdict a c (o .0) (n .0) (n .1)) ∙ d)),
         λ w. verdict a c (o .0) (n .0) (n .1) ∙ lt-ltb 0 (occurrences a (c ∷ n .0)) (meets-occ (b .parents) (displayAt s) a (o .0) (c ∷ n .0) (n .1) c refl w),
       )
 
-  pub scanned : (t a c : ℕ) → 2 ≤ a → 2 ≤ c → 0 < occurrences a (rowOf b t) → 0 < occurrences c (rowOf b t) → displayHolds s a c ≡ scan a c (rowOf b t)
+  pub scanned : (t a c : ℕ) → 2 ≤ a → 2 ≤ c → 0 < occurrences a (threadRow b t) → 0 < occurrences c (threadRow b t) → displayHolds s a c ≡ scan a c (threadRow b t)
   scanned t a c h k p q =
-      let z : (j : List ℕ) × Nested (b .parents) (displayAt s) (c ∷ j) × (scan a c (rowOf b t) ≡ ltb 0 (occurrences a (c ∷ j)))
-      = scan-is (b .parents) (displayAt s) a h c k (rowOf b t) (row-nested t) q in
+      let z : (j : List ℕ) × Chain (b .parents) (displayAt s) (c ∷ j) × (scan a c (threadRow b t) ≡ ltb 0 (occurrences a (c ∷ j)))
+      = scan-is (b .parents) (displayAt s) a h c k (threadRow b t) (row-nested t) q in
       verdict a c h (z .0) (z .1) ∙ sym (z .2)

@@ -11,23 +11,21 @@ use borrow.Author.Tests.{eqb-true, eqb-false, eq-eqb, ne-eqb, le-leb, lt-leb, lt
 use Rattle.layout.specs.Choice.{pick, cases}
 use Rattle.model.specs.declared.Area.{Area}
 use Rattle.model.specs.declared.Lengths.{Lengths}
-use Rattle.model.specs.State.{State, Memory, areaAt, threadAt, stackOf}
+use Rattle.model.specs.State.{State, Memory, areaAt, threadAt, entriesOf}
 use Rattle.model.specs.SetUp.{firstState}
 use Rattle.model.specs.Scopes.{enterState, enterValue, popped, exitState, exitValue}
 use Rattle.model.specs.Objects.{currentAt}
-use Rattle.model.specs.Calls.{Call, start, end, make, enter, exit, allocate, store, load, write, read, view, viewed, callStatus, callValue, callState}
+use Rattle.model.specs.Calls.{Call, start, end, make, enter, exit, allocate, store, write, asks, callStatus, callValue, callState}
 use Rattle.model.specs.Run.{Line}
 use Rattle.model.specs.History.{History, total, historyExit, historyOf}
 use Rattle.model.specs.Values.{openingStep, lastOpening, entryGeneration, entriesLeft}
-use Rattle.model.proofs.Accepted.{MakeOk, make-ok, EnterOk, enter-ok, ExitOk, exit-ok, AllocateOk, allocate-ok}
+use Rattle.model.proofs.Accepted.{fitted-ok, MakeOk, make-ok, EnterOk, enter-ok, ExitOk, exit-ok, AllocateOk, allocate-ok}
 use Rattle.model.proofs.Sound.{generationIn, Sound}
 use Rattle.model.proofs.Bounds.{by-area, current-area}
 use Rattle.model.proofs.Keeps.{first-scope}
-use Rattle.model.proofs.KeepsEnter.{freshArea}
-use Rattle.model.proofs.KeepsExit.{by-top}
 use Rattle.model.proofs.Agrees.{row-top, left-count}
 use Rattle.model.proofs.NestingClaims.{history-nesting}
-use Rattle.model.proofs.Alters.{Stays, Alters, start-stays, end-stays, enter-low, exit-low, make-alters, open-alters, fresh-alters, left-alters, allocate-alters}
+use Rattle.model.proofs.Alters.{Stays, Alters, start-stays, end-stays, make-alters, allocate-alters, freshArea, enter-stays, open-alters, fresh-alters, by-top, exit-stays, left-alters}
 use Rattle.model.proofs.Outcomes.{Transition}
 use Rattle.model.proofs.ValueMeanings.{opening-accepted, opening-refused}
 
@@ -50,7 +48,7 @@ carried-all {q = q} e k a = cases (eqb a q)
     (λ d. carried-same (e .others a (eqb-false a q d) .area))
 
 module _ (s : State) (m : Memory) (b : History) (o : Sound s m b) where
-  -- a scope is open where the book has it on a row
+  -- a scope is open where the history has it on a row
   count-is : (a : ℕ) → 2 ≤ a → a < 64 → areaAt s a .count ≡ total a (b .rows)
   count-is = history-nesting s b (o .good) (o .same) .counts
 
@@ -71,48 +69,45 @@ module _ (s : State) (m : Memory) (b : History) (o : Sound s m b) where
   unfolding enterValue
   enter-open-value q h c = rw (le-leb 2 q h, lt-ltb 0 (areaAt s q .count) c)
 
-  carried-enter : (t q : ℕ) → EnterOk s m t q → (a : ℕ)
+  carried-enter : (t q : ℕ) → EnterOk s t q → (a : ℕ)
       → Carried (areaAt s a) (areaAt (enterState s t q) a) (openingStep b a (generationIn s a) (enter t q) (enterValue s q))
   carried-enter t q k a = by-area s q
-      (λ h. rw (lt-leb 2 q h) (carried-stays (enterState s t q) (enter-low s t q h) a))
+      (λ h. rw (lt-leb 2 q h) (carried-stays (enterState s t q) (enter-stays s t q h) a))
       (λ h c. rw (le-leb 2 q h, eq-eqb (total q (b .rows)) 0 (omega (arith, count-is q h (k .area)))) (fresh h c))
       (λ h c. rw (le-leb 2 q h, ne-eqb (total q (b .rows)) 0 (λ z. omega (arith, count-is q h (k .area))))
-      (carried-all (open-alters s (o .good .areas) q (k .area) t h c) record { start = λ p. refl; generation = refl } a))
+      (carried-all (open-alters s t q (o .good .areas) (k .area) h c) record { start = λ p. refl; generation = refl } a))
     where
       fresh : 2 ≤ q → areaAt s q .count ≡ 0 → Carried (areaAt s a) (areaAt (enterState s t q) a) (pick (eqb q a) (enterValue s q) (generationIn s a))
       fresh h c =
-          let to : Alters s (enterState s t q) q (freshArea s t q) = fresh-alters s (o .good .areas) q (k .area) t h c in
+          let to : Alters s (enterState s t q) q (freshArea s t q) = fresh-alters s t q (o .good .areas) (k .area) h c in
           cases (eqb q a)
           (λ d. rw (d, ← eqb-true q a d, to .here) record { start = λ p. refl; generation = sym (enter-fresh-value q h c) })
           (λ d. rw d (carried-same (to .others a (λ e. eqb-false q a d (sym e)) .area)))
 
-  carried-exit : (t : ℕ) → ExitOk s m t → (a : ℕ) → Carried (areaAt s a) (areaAt (exitState s t) a) (generationIn s a)
+  carried-exit : (t : ℕ) → ExitOk s t → (a : ℕ) → Carried (areaAt s a) (areaAt (exitState s t) a) (generationIn s a)
   carried-exit t k a = by-top s t
-      (λ h. carried-stays (exitState s t) (exit-low s t h) a)
-      (λ h. carried-all (left-alters s (o .good .areas) t h (current-area s (o .good) t (k .called .thread)))
+      (λ h. carried-stays (exitState s t) (exit-stays s t h) a)
+      (λ h. carried-all (left-alters s t (o .good .areas) (current-area s (o .good) t (k .called .thread)) h)
       record { start = λ p. refl; generation = refl } a)
 
   -- any accepted call
   pub carried-call : (c : Call) → callStatus s m c ≡ 0 → (a : ℕ)
-      → Carried (areaAt s a) (areaAt (callState s c) a) (openingStep b a (generationIn s a) c (callValue s m c))
-  carried-call (start t p) z a = carried-stays (callState s (start t p)) (start-stays s t p) a
-  carried-call (end t) z a = carried-stays (callState s (end t)) (end-stays s t) a
+      → Carried (areaAt s a) (areaAt (callState s m c) a) (openingStep b a (generationIn s a) c (callValue s m c))
+  carried-call (start t p) z a = carried-stays (callState s m (start t p)) (start-stays s t p) a
+  carried-call (end t) z a = carried-stays (callState s m (end t)) (end-stays s t) a
   carried-call (make t q r) z a =
-      let k : MakeOk s m t q r = make-ok s m t q r z in
+      let k : MakeOk s t q r = make-ok s t q r (fitted-ok s m _ z .1) in
       carried-all (make-alters s (o .good .areas) q (k .area) r)
       record { start = λ p. absurd (omega (arith, k .unmade, o .good .placed .used q (k .area))); generation = refl } a
-  carried-call (enter t q) z a = carried-enter t q (enter-ok s m t q z) a
-  carried-call (exit t) z a = carried-exit t (exit-ok s m t z) a
+  carried-call (enter t q) z a = carried-enter t q (enter-ok s t q (fitted-ok s m _ z .1)) a
+  carried-call (exit t) z a = carried-exit t (exit-ok s t (fitted-ok s m _ z .1)) a
   carried-call (allocate t q r) z a =
-      let k : AllocateOk s m t q r = allocate-ok s m t q r z in
+      let k : AllocateOk s t q r = allocate-ok s t q r (fitted-ok s m _ z .1) in
       carried-all (allocate-alters s (o .good .areas) (currentAt s t) (current-area s (o .good) t (k .called .thread)) q r)
       record { start = λ p. refl; generation = refl } a
   carried-call (store t p q r) z a = carried-same refl
-  carried-call (load t p q) z a = carried-same refl
   carried-call (write t p q r) z a = carried-same refl
-  carried-call (read t p q) z a = carried-same refl
-  carried-call (view t p) z a = carried-same refl
-  carried-call (viewed t p) z a = carried-same refl
+  carried-call (asks x) z a = carried-same refl
 
 -- ---- generations and openings
 
@@ -137,7 +132,7 @@ module _ (s : State) (m : Memory) (ls : List Line) (o : Sound s m (historyOf ls)
   pub entry-value : (t q : ℕ) → callStatus s m (enter t q) ≡ 0 → callValue s m (enter t q) ≡ entryGeneration q ls
   unfolding entryGeneration
   entry-value t q z =
-      let e : EnterOk s m t q = enter-ok s m t q z in
+      let e : EnterOk s t q = enter-ok s t q (fitted-ok s m _ z .1) in
       by-area s q
       (λ h. rw (lt-leb 2 q h) (enter-low-value s m (historyOf ls) o q h ∙ o .good .standing q h .generation))
       (λ h c. rw (le-leb 2 q h, eq-eqb (total q (historyOf ls .rows)) 0 (omega (arith, count-is s m (historyOf ls) o q h (e .area))))
@@ -149,11 +144,11 @@ pub exit-value : (s : State) (m : Memory) (b : History) → Sound s m b → (t :
     → callStatus s m (exit t) ≡ 0 → callValue s m (exit t) ≡ entriesLeft b t
 unfolding exitValue entriesLeft historyExit
 exit-value s m b o t z =
-    let k : ExitOk s m t = exit-ok s m t z in
-    rw (row-top s m t (o .good) k b (o .same)) (by-top s t
+    let k : ExitOk s t = exit-ok s t (fitted-ok s m _ z .1) in
+    rw (row-top s t (o .good) k b (o .same)) (by-top s t
     (λ h. rw (lt-leb 2 (currentAt s t) h))
     (λ h. rw (le-leb 2 (currentAt s t) h) (left h k)))
   where
-    left : 2 ≤ currentAt s t → ExitOk s m t
-        → pred (areaAt s (currentAt s t) .count) ≡ total (currentAt s t) (set (b .rows) t (stackOf (popped (threadAt s t))))
-    left h k = omega (arith, left-count s m t (o .good) k b (o .same) h)
+    left : 2 ≤ currentAt s t → ExitOk s t
+        → pred (areaAt s (currentAt s t) .count) ≡ total (currentAt s t) (set (b .rows) t (entriesOf (popped (threadAt s t))))
+    left h k = omega (arith, left-count s t (o .good) k b (o .same) h)

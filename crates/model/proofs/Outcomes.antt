@@ -7,15 +7,10 @@ use mathlib.Core.Logic.{_≢_, _⊎_, inl, inr, ⊎-elim}
 use lib.Dec.{eqb}
 use native.Mathlib.Omega.{arith}
 use borrow.Author.Tests.{eqb-true, eqb-false, eq-eqb, ne-eqb}
-use Rattle.layout.specs.Choice.{pick, cases, hit}
+use Rattle.layout.specs.Choice.{pick, cases, hit, skip}
 use Rattle.model.specs.State.{State, Memory}
-use Rattle.model.specs.Checks.{fits, admit, useStatus}
-use Rattle.model.specs.Threads.{startStatus, endStatus}
-use Rattle.model.specs.Scopes.{makeStatus, enterStatus, exitStatus}
-use Rattle.model.specs.Objects.{allocateStatus}
-use Rattle.model.specs.References.{slotStatus, storeStatus, loadStatus}
-use Rattle.model.specs.Data.{dataStatus, viewStatus}
-use Rattle.model.specs.Calls.{Call, start, end, make, enter, exit, allocate, store, load, write, read, view, viewed, callStatus, callValue, callState, callMemory, outcomeOf}
+use Rattle.model.specs.Checks.{fits, fitted}
+use Rattle.model.specs.Calls.{Call, start, end, make, enter, exit, allocate, store, write, Question, loads, reads, views, viewsStatus, asks, view, callStatus, callValue, callState, callMemory, outcomeOf}
 use Rattle.model.specs.Run.{Line}
 use Rattle.model.specs.History.{History, historyStep, historyLine}
 use Rattle.model.proofs.Sound.{Sound}
@@ -28,7 +23,7 @@ use Rattle.model.proofs.KeepsMemory.{sound-call}
 -- from s and m to n and k: its call is accepted, ..
 pub record Accepts (s : State) (m : Memory) (l : Line) (n : State) (k : Memory) : Type 0 where
   pub passed : callStatus s m (l .call) ≡ 0
-  pub state : n ≡ callState s (l .call)
+  pub state : n ≡ callState s m (l .call)
   pub memory : k ≡ callMemory s m (l .call)
   pub status : l .reply .status ≡ 0
   pub value : l .reply .value ≡ callValue s m (l .call)
@@ -66,11 +61,11 @@ module _ {s : State} {m : Memory} {l : Line} {n : State} {k : Memory} where
 -- ---- one call
 
 -- the line that a call leaves
-abbrev pub lineOf : State → Memory → Call → Line
-lineOf s m c = record { call = c; reply = outcomeOf s m c .reply }
+abbrev pub lineFor : State → Memory → Call → Line
+lineFor s m c = record { call = c; reply = outcomeOf s m c .reply }
 
 -- lent a memory of the right lengths
-pub transition : (s : State) (m : Memory) (c : Call) → Transition s m (lineOf s m c) (outcomeOf s m c .state) (outcomeOf s m c .memory)
+transition : (s : State) (m : Memory) (c : Call) → Transition s m (lineFor s m c) (outcomeOf s m c .state) (outcomeOf s m c .memory)
 unfolding outcomeOf
 transition s m c = cases (eqb (callStatus s m c) 0)
     (λ e. rw e (inl record { passed = eqb-true (callStatus s m c) 0 e; state = refl; memory = refl; status = refl; value = refl }))
@@ -80,34 +75,34 @@ transition s m c = cases (eqb (callStatus s m c) 0)
 data IsView : Call → Type 0 where
   is-view : (t p : ℕ) → IsView (view t p)
 
+-- lent a memory of the lengths of set-up: the rest of the refusals counts
+pub fit-fitted : (s : State) (m : Memory) → fits s m ≡ true → (rest : ℕ) → fitted s m rest ≡ rest
+unfolding fitted
+fit-fitted s m f rest = skip (not (fits s m)) 1 rest (ap not f)
+
 -- lent a memory of other lengths: it is refused by 1, or is a view, which shows no part; and nothing changes
 module _ (s : State) (n : Memory) (u : fits s n ≡ false) where
-  unfit-admit : (t rest : ℕ) → admit s n t rest ≡ 1
-  unfolding admit
-  unfit-admit t rest = hit (not (fits s n)) 1 _ (ap not u)
+  pub unfit-fitted : (rest : ℕ) → fitted s n rest ≡ 1
+  unfolding fitted
+  unfit-fitted rest = hit (not (fits s n)) 1 _ (ap not u)
 
-  unfit-start : (t p : ℕ) → startStatus s n t p ≡ 1
-  unfolding startStatus
-  unfit-start t p = hit (not (fits s n)) 1 _ (ap not u)
-
-  unfit-use : (t p rest : ℕ) → useStatus s n t p rest ≡ 1
-  unfolding useStatus
-  unfit-use t p rest = unfit-admit t _
+  unfit-question : (x : Question) → (callStatus s n (asks x) ≡ 1) ⊎ IsView (asks x)
+  unfit-question (loads t p q) = inl (unfit-fitted _)
+  unfit-question (reads t p q) = inl (unfit-fitted _)
+  unfit-question (views t p) = inr (is-view t p)
+  unfit-question (viewsStatus t p) = inl (unfit-fitted _)
 
   -- "1: lengths are not those of set-up", before every other refusal
   unfit-status : (c : Call) → (callStatus s n c ≡ 1) ⊎ IsView c
-  unfit-status (start t p) = inl (unfit-start t p)
-  unfit-status (end t) = inl (unfold endStatus in unfit-admit t _)
-  unfit-status (make t q r) = inl (unfold makeStatus in unfit-admit t _)
-  unfit-status (enter t q) = inl (unfold enterStatus in unfit-admit t _)
-  unfit-status (exit t) = inl (unfold exitStatus in unfit-admit t _)
-  unfit-status (allocate t q r) = inl (unfold allocateStatus in unfit-admit t _)
-  unfit-status (store t p q r) = inl (unfold storeStatus slotStatus in unfit-use t p _)
-  unfit-status (load t p q) = inl (unfold loadStatus slotStatus in unfit-use t p _)
-  unfit-status (write t p q r) = inl (unfold dataStatus in unfit-use t p _)
-  unfit-status (read t p q) = inl (unfold dataStatus in unfit-use t p _)
-  unfit-status (view t p) = inr (is-view t p)
-  unfit-status (viewed t p) = inl (unfold viewStatus in unfit-use t p _)
+  unfit-status (start t p) = inl (unfit-fitted _)
+  unfit-status (end t) = inl (unfit-fitted _)
+  unfit-status (make t q r) = inl (unfit-fitted _)
+  unfit-status (enter t q) = inl (unfit-fitted _)
+  unfit-status (exit t) = inl (unfit-fitted _)
+  unfit-status (allocate t q r) = inl (unfit-fitted _)
+  unfit-status (store t p q r) = inl (unfit-fitted _)
+  unfit-status (write t p q r) = inl (unfit-fitted _)
+  unfit-status (asks x) = unfit-question x
 
   -- what it is lent is left as it was
   pub unfit-memory : (c : Call) → outcomeOf s n c .memory ≡ n
@@ -120,18 +115,18 @@ module _ (s : State) (n : Memory) (u : fits s n ≡ false) where
       by-view (is-view t p) = unfold outcomeOf in refl
 
   -- and so is what is kept
-  pub unfit : (m : Memory) (c : Call) → Transition s m (lineOf s n c) (outcomeOf s n c .state) m
+  pub unfit : (m : Memory) (c : Call) → Transition s m (lineFor s n c) (outcomeOf s n c .state) m
   unfit m c = ⊎-elim by-1 by-view (unfit-status c)
     where
-      by-1 : callStatus s n c ≡ 1 → Transition s m (lineOf s n c) (outcomeOf s n c .state) m
+      by-1 : callStatus s n c ≡ 1 → Transition s m (lineFor s n c) (outcomeOf s n c .state) m
       by-1 e = unfold outcomeOf in rw e (inr record { state = refl; memory = refl; status = λ z. omega arith; number = inr refl })
 
-      by-view : {d : Call} → IsView d → Transition s m (lineOf s n d) (outcomeOf s n d .state) m
+      by-view : {d : Call} → IsView d → Transition s m (lineFor s n d) (outcomeOf s n d .state) m
       by-view (is-view t p) = unfold outcomeOf in inl record { passed = refl; state = refl; memory = refl; status = refl; value = refl }
 
 -- lent the kept memory, or one of other lengths, which is not kept
 pub step-transition : (s : State) (m n : Memory) → fits s m ≡ true → (n ≡ m) ⊎ (fits s n ≡ false) → (c : Call)
-    → Transition s m (lineOf s n c) (outcomeOf s n c .state) (pick (fits s n) (outcomeOf s n c .memory) m)
+    → Transition s m (lineFor s n c) (outcomeOf s n c .state) (pick (fits s n) (outcomeOf s n c .memory) m)
 step-transition s m n f d c = ⊎-elim
     (λ (q : n ≡ m). rw (q, f) (transition s m c))
     (λ u. rw u (unfit s n u m c))

@@ -13,9 +13,9 @@ use Rattle.layout.specs.Choice.{cases}
 use Rattle.layout.specs.Stack.{down}
 use Rattle.model.specs.declared.Area.{Area}
 use Rattle.model.specs.declared.Lengths.{Lengths}
-use Rattle.model.specs.State.{Thread, State, noArea, noThread, areaAt, rowAt, threadAt, withArea, withRow, withThread, withTaken, stackOf, stackAt, innermost, current, displayAt}
+use Rattle.model.specs.State.{Thread, State, noArea, noThread, areaAt, rowAt, threadAt, withArea, withRow, withThread, withTaken, entriesOf, stackAt, innermost, displayAt}
 use Rattle.model.specs.History.{total}
-use Rattle.model.specs.Invariant.{scopesOf, Nesting, ThreadGood, Each, StandingGood, ScopeGood, Placed, parentIn, countIn, stacksIn, Good}
+use Rattle.model.specs.Invariant.{branchOf, firstOf, Nesting, ThreadGood, Each, StandingGood, ScopeGood, Placed, parentIn, countIn, stacksIn, Good}
 use Rattle.model.proofs.Lists.{innermost-is, each-set}
 use Rattle.model.proofs.Nesting.{nested-frame}
 
@@ -51,11 +51,11 @@ module _ (s : State) where
 
   -- a row of the stacks is a thread's stack
   pub stack-is : (t : ℕ) → getD (stacksIn s) t [] ≡ stackAt s t
-  unfolding stackOf down
-  stack-is t = List·getD-map stackOf (s .threads) t noThread
+  unfolding entriesOf down
+  stack-is t = List·getD-map entriesOf (s .threads) t noThread
 
-  -- the innermost scope of a stack is the first of its scopes
-  pub inner-is : (t : ℕ) → innermost (stackAt s t) ≡ current (scopesOf (getD (stacksIn s) t []))
+  -- the innermost scope of a stack is the first of its branch
+  pub inner-is : (t : ℕ) → innermost (stackAt s t) ≡ firstOf (branchOf (getD (stacksIn s) t []))
   inner-is t = rw stack-is (innermost-is (stackAt s t))
 
   -- a display goes by the area's depth and its row
@@ -63,9 +63,14 @@ module _ (s : State) where
   unfolding displayAt
   display-same r a e d = ap₂ (λ (l : List ℕ) (n : ℕ). down l n) d e
 
-  -- what is seen of an area that is as it was, with its row
-  pub seen : (r : State) (a : ℕ) → areaAt r a ≡ areaAt s a → rowAt r a ≡ rowAt s a → (parentIn r a ≡ parentIn s a) × (displayAt r a ≡ displayAt s a)
-  seen r a e d = (ap (λ (x : Area). x .parent) e, display-same r a (ap (λ (x : Area). x .depth) e) d)
+-- area a and its row are as they were
+pub record Untouched (s n : State) (a : ℕ) : Type 0 where
+  pub area : areaAt n a ≡ areaAt s a
+  pub row : rowAt n a ≡ rowAt s a
+
+-- what is seen of such an area
+pub seen : {s n : State} {a : ℕ} → Untouched s n a → (parentIn n a ≡ parentIn s a) × (displayAt n a ≡ displayAt s a)
+seen {s} {n} {a} u = (ap (λ (x : Area). x .parent) (u .area), display-same s n a (ap (λ (x : Area). x .depth) (u .area)) (u .row))
 
 -- a nesting of which nothing that is seen has changed
 pub nesting-same : {par par′ : ℕ → ℕ} {dis dis′ : ℕ → List ℕ} {cnt cnt′ : ℕ → ℕ} {rows rows′ : List (List ℕ)} → Nesting par dis cnt rows
@@ -73,7 +78,7 @@ pub nesting-same : {par par′ : ℕ → ℕ} {dis dis′ : ℕ → List ℕ} {c
 nesting-same {par} {par′} {dis} {dis′} {rows = rows} v f c e = record {
   size = ap length e ∙ v .size;
   counts = λ a h k. c a ∙ v .counts a h k ∙ ap (total a) (sym e);
-  nested = λ t h. rw e (nested-frame par par′ dis dis′ (scopesOf (getD rows t [])) (λ a x. f a) (v .nested t h));
+  nested = λ t h. rw e (nested-frame par par′ dis dis′ (getD rows t []) (λ a x. f a) (v .nested t h));
 }
 
 -- ---- the invariant without its nesting
@@ -93,19 +98,19 @@ pub good-of : (s : State) → Parts s → Nesting (parentIn s) (displayAt s) (co
 good-of s p v = record { areas = p .areas; rows = p .rows; threads = p .threads; standing = p .standing; scopes = p .scopes; placed = p .placed; nesting = v }
 
 -- an area that lies where it lay, with no more used words than it has
-pub record Stays (x y : Area) : Type 0 where
+pub record SamePlace (x y : Area) : Type 0 where
   pub start : y .start ≡ x .start
   pub size : y .size ≡ x .size
   pub used : y .used ≤ y .size
 
 -- areas that lie where they lay
-pub placed-same : (s r : State) → Placed s → r .lengths ≡ s .lengths → r .taken ≡ s .taken → ((a : ℕ) → a < 64 → Stays (areaAt s a) (areaAt r a)) → Placed r
+placed-same : (s r : State) → Placed s → r .lengths ≡ s .lengths → r .taken ≡ s .taken → ((a : ℕ) → a < 64 → SamePlace (areaAt s a) (areaAt r a)) → Placed r
 placed-same s r p l n f =
     let e0 : r .lengths .permanent ≡ s .lengths .permanent = ap (λ (x : Lengths). x .permanent) l in
     let e1 : r .lengths .scratch ≡ s .lengths .scratch = ap (λ (x : Lengths). x .scratch) l in
     let e2 : r .lengths .map ≡ s .lengths .map = ap (λ (x : Lengths). x .map) l in
-    let heap : Stays (areaAt s 0) (areaAt r 0) = f 0 (omega arith) in
-    let immortal : Stays (areaAt s 1) (areaAt r 1) = f 1 (omega arith) in
+    let heap : SamePlace (areaAt s 0) (areaAt r 0) = f 0 (omega arith) in
+    let immortal : SamePlace (areaAt s 1) (areaAt r 1) = f 1 (omega arith) in
     record {
       permanent = omega (arith, p .permanent);
       scratch = omega (arith, p .scratch);
@@ -121,7 +126,7 @@ placed-same s r p l n f =
     }
 
 module _ (s : State) (p : Parts s) where
-  same : (a : ℕ) → a < 64 → Stays (areaAt s a) (areaAt s a)
+  same : (a : ℕ) → a < 64 → SamePlace (areaAt s a) (areaAt s a)
   same a k = record { start = refl; size = refl; used = p .placed .used a k }
 
   -- a thread is replaced
@@ -168,12 +173,12 @@ module _ (s : State) (p : Parts s) where
     }
 
     -- an area is replaced by one that lies where it lay
-    pub parts-area : (q < 2 → StandingGood x) → (2 ≤ q → ScopeGood x) → Stays (areaAt s q) x → Parts (withArea s q x)
+    pub parts-area : (q < 2 → StandingGood x) → (2 ≤ q → ScopeGood x) → SamePlace (areaAt s q) x → Parts (withArea s q x)
     unfolding withTaken withArea
     parts-area low high o =
         parts-made low high (s .taken)
         (placed-same s (withArea s q x) (p .placed) refl refl
-        (λ a l. area-by (Stays (areaAt s a)) a (λ e. rw e o) (λ ne. same a l)))
+        (λ a l. area-by (SamePlace (areaAt s a)) a (λ e. rw e o) (λ ne. same a l)))
 
     -- a number of an area that is no other in x
     pub number-kept : (f : Area → ℕ) → f x ≡ f (areaAt s q) → (a : ℕ) → f (areaAt (withArea s q x) a) ≡ f (areaAt s a)

@@ -8,35 +8,32 @@ use lib.ListN.{length, getD}
 use lib.Dec.{eqb, leb}
 use native.Mathlib.Omega.{arith}
 use borrow.Author.Tests.{leb-true, leb-false, eqb-true, eqb-false}
-use Rattle.layout.specs.Choice.{pick, cases, and-true}
-use Rattle.model.specs.State.{State, Memory, areaAt, isScope, storeOf, withStore, bitIndex}
+use Rattle.layout.specs.Choice.{cases, and-true}
+use Rattle.model.specs.State.{State, Memory, areaAt, isScope, storeLength, storeOf, withStore, bitIndex}
 use Rattle.model.specs.Checks.{fits}
 use Rattle.model.specs.Invariant.{Placed}
-
--- the length of the store that has an area's words
-abbrev lengthFor : State → ℕ → ℕ
-lengthFor s a = pick (isScope a) (s .lengths .scratch) (s .lengths .permanent)
 
 -- ---- inside
 
 module _ (s : State) (g : Placed s) where
   -- heap and immortal lie in the permanent store
-  pub low-inside : (a : ℕ) → a < 2 → areaAt s a .start + areaAt s a .size ≤ s .lengths .permanent
+  low-inside : (a : ℕ) → a < 2 → areaAt s a .start + areaAt s a .size ≤ s .lengths .permanent
   low-inside zero h = omega (arith, g .heap, g .whole)
   low-inside (suc zero) h = omega (arith, g .immortal, g .whole)
   low-inside (suc (suc a)) h = absurd (omega arith)
 
-  -- an area ends within its store
-  pub area-inside : (a : ℕ) → a < 64 → areaAt s a .start + areaAt s a .size ≤ lengthFor s a
-  area-inside a h = cases (leb 2 a)
+  -- every area ends within its store
+  pub inside : (a : ℕ) → a < 64 → areaAt s a .start + areaAt s a .size ≤ storeLength s a
+  inside a h = cases (leb 2 a)
       (λ e. rw e (omega (arith, g .below a (leb-true 2 a e) h, g .taken)))
       (λ e. rw e (low-inside a (leb-false 2 a e)))
 
   -- so an offset has 14 bits
+  store-room : (a : ℕ) → storeLength s a ≤ 16384
+  store-room a = cases (leb 2 a) (λ e. rw e (g .scratch)) (λ e. rw e (g .permanent))
+
   pub size-room : (a : ℕ) → a < 64 → areaAt s a .size ≤ 16384
-  size-room a h = cases (leb 2 a)
-      (λ e. omega (arith, g .below a (leb-true 2 a e) h, g .taken, g .scratch))
-      (λ e. omega (arith, low-inside a (leb-false 2 a e), g .permanent))
+  size-room a h = omega (arith, inside a h, store-room a)
 
   pub room : (a : ℕ) → a < 64 → areaAt s a .used ≤ 16384
   room a h = omega (arith, g .used a h, size-room a h)
@@ -48,8 +45,8 @@ module _ (s : State) (g : Placed s) where
   -- the bit of a word is one of the map's
   bit-inside : (a : ℕ) → a < 64 → (j : ℕ) → j < areaAt s a .size → bitIndex s a j < s .lengths .permanent + s .lengths .scratch
   bit-inside a h j p = cases (leb 2 a)
-      (λ e. rw e (omega (arith, g .below a (leb-true 2 a e) h, g .taken)))
-      (λ e. rw e (omega (arith, low-inside a (leb-false 2 a e))))
+      (λ e. rw e (omega (arith, rw e at (inside a h))))
+      (λ e. rw e (omega (arith, rw e at (inside a h))))
 
   -- ---- apart
 
@@ -75,9 +72,9 @@ module _ (s : State) (g : Placed s) where
     one-area e = cases (leb 2 a)
         (λ x. cases (leb 2 c)
         (λ y. high-apart a c (leb-true 2 a x) h (leb-true 2 c y) i j k p q (omega (arith, rw (x, y) at e)))
-        (λ y. absurd (omega (arith, rw (x, y) at e, low-inside c (leb-false 2 c y)))))
+        (λ y. absurd (omega (arith, rw (x, y) at e, rw y at (inside c i)))))
         (λ x. cases (leb 2 c)
-        (λ y. absurd (omega (arith, rw (x, y) at e, low-inside a (leb-false 2 a x))))
+        (λ y. absurd (omega (arith, rw (x, y) at e, rw x at (inside a h))))
         (λ y. low-apart a c (leb-false 2 a x) (leb-false 2 c y) j k p q (omega (arith, rw (x, y) at e))))
 
     -- two words with one bit are one word
@@ -106,7 +103,7 @@ module _ (s : State) (m : Memory) (f : fits s m ≡ true) where
       let q = and-true (eqb (length (m .scratch)) (s .lengths .scratch)) _ (p .1) in
       record { permanent = eqb-true _ _ (p .0); scratch = eqb-true _ _ (q .0); map = eqb-true _ _ (q .1) }
 
-  pub store-length : (a : ℕ) → length (storeOf m a) ≡ lengthFor s a
+  pub store-length : (a : ℕ) → length (storeOf m a) ≡ storeLength s a
   store-length a = cases (isScope a) (λ e. rw e (supplied-lengths .scratch)) (λ e. rw e (supplied-lengths .permanent))
 
   -- the same lengths fit
@@ -118,7 +115,7 @@ module _ (s : State) (m : Memory) (f : fits s m ≡ true) where
 module _ (s : State) (m : Memory) (g : Placed s) (f : fits s m ≡ true) (a : ℕ) (h : a < 64) (j : ℕ) (p : j < areaAt s a .size) where
   -- a word lies inside its store
   pub word-in : areaAt s a .start + j < length (storeOf m a)
-  word-in = rw (store-length s m f a) (omega (arith, area-inside s g a h))
+  word-in = rw (store-length s m f a) (omega (arith, inside s g a h))
 
   -- and its bit in a word of the map
   pub bit-in : bitIndex s a j / 64 < length (m .map)

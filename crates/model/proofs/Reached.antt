@@ -12,7 +12,7 @@ unfolding run
 run-none w = refl
 
 -- one call more
-pub run-more : (w : World) (es : List Element) (e : Element) → run w (es ++ (e ∷ [])) ≡ step (run w es) e
+run-more : (w : World) (es : List Element) (e : Element) → run w (es ++ (e ∷ [])) ≡ step (run w es) e
 unfolding run
 run-more w [] e = refl
 run-more w (x ∷ es) e = run-more (step w x) es e

@@ -10,25 +10,25 @@ use Rattle.layout.specs.Stack.{down}
 use Rattle.bitmap.specs.Bitmap.{bitAt, withBit, withoutBit, cleared}
 use Rattle.rights.specs.Rights.{classOf, rightsRows, rightDigit, allows}
 use Rattle.display.specs.Display.{rowHolds}
-use Rattle.model.specs.State.{State, Memory, withArea, withRow, withThread, withTaken, stackOf, innermost, isMade, displayHolds, withStore}
+use Rattle.model.specs.State.{State, Memory, withArea, withRow, withThread, withTaken, entriesOf, innermost, isMade, displayHolds, withStore}
 use Rattle.model.specs.SetUp.{firstState}
-use Rattle.model.specs.Checks.{fits, admit, hasRight, live, isObject, isReference, useStatus}
-use Rattle.model.specs.Threads.{startStatus, startState, endStatus, endState}
-use Rattle.model.specs.Scopes.{makeStatus, makeState, otherParent, exhausted, enterStatus, enteredArea, pushed, enterState, enterValue, exitStatus, leftArea, popped, exitState, exitValue}
-use Rattle.model.specs.Objects.{allocateStatus, allocateState, filled, objectWords, objectBits, allocateMemory, allocateValue}
-use Rattle.model.specs.References.{mayRefer, storeAfter, slotStatus, referenceStatus, storeStatus, loadStatus}
-use Rattle.model.specs.Data.{dataStatus, viewStatus, viewWords}
+use Rattle.model.specs.Checks.{fits, fitted, called, hasRight, live, isObject, isReference, useRest}
+use Rattle.model.specs.Threads.{startRest, startState, endRest, endState}
+use Rattle.model.specs.Scopes.{makeRest, makeState, otherParent, atLastGeneration, enterRest, enteredArea, pushed, enterState, enterValue, exitRest, leftArea, popped, exitState, exitValue}
+use Rattle.model.specs.Objects.{allocateRest, allocateState, filled, objectWords, objectBits, allocateMemory, allocateValue}
+use Rattle.model.specs.References.{mayRefer, storeAfter, slotRest, referenceRest, storeRest, loadRest}
+use Rattle.model.specs.Data.{dataRest, viewWords}
 use Rattle.model.specs.Calls.{Call, start, make, enter, allocate, Reply, outcomeOf}
 use Rattle.model.specs.Run.{World, kept, step, begin}
 
 -- what a call answers
 unfoldable pub answer : World → Call → Reply
 unfolding refuse handleOf offsetOf areaOf generationOf headerOf slotsOf dataOf down bitAt withBit withoutBit cleared classOf rightsRows rightDigit allows rowHolds
-    withArea withRow withThread withTaken stackOf innermost isMade displayHolds withStore firstState fits admit hasRight live isObject isReference useStatus
-    startStatus startState endStatus endState makeStatus makeState otherParent exhausted enterStatus enteredArea pushed enterState enterValue
-    exitStatus leftArea popped exitState exitValue
-    allocateStatus allocateState filled objectWords objectBits allocateMemory allocateValue mayRefer storeAfter slotStatus referenceStatus storeStatus loadStatus
-    dataStatus viewStatus viewWords outcomeOf step begin
+    withArea withRow withThread withTaken entriesOf innermost isMade displayHolds withStore firstState fits fitted called hasRight live isObject isReference useRest
+    startRest startState endRest endState makeRest makeState otherParent atLastGeneration enterRest enteredArea pushed enterState enterValue
+    exitRest leftArea popped exitState exitValue
+    allocateRest allocateState filled objectWords objectBits allocateMemory allocateValue mayRefer storeAfter slotRest referenceRest storeRest loadRest
+    dataRest viewWords outcomeOf step begin
 answer w c = outcomeOf (w .state) (w .memory) c .reply
 
 unfoldable pub status : World → Call → ℕ

@@ -1,4 +1,4 @@
--- What ties a state, the lent memory and the book together: the invariant over every list of calls.
+-- What ties a state, the lent memory and the history together: the invariant over every list of calls.
 -- Assumes nothing.
 use Prim.Native.Nat.{ℕ, _≤_, _<_}
 use mathlib.Core.Bool.{Bool, true}
@@ -13,7 +13,7 @@ use Rattle.model.specs.History.{History, occurrences}
 use Rattle.model.specs.Invariant.{parentIn, countIn, stacksIn, Good}
 use Rattle.model.proofs.Memory.{Mem}
 
--- the state has the book's started threads, stacks and parents
+-- the state has the history's started threads, stacks and parents
 pub record Same (s : State) (b : History) : Type 0 where
   pub started : (t : ℕ) → isStarted s t ≡ b .started t
   pub rows : stacksIn s ≡ b .rows

@@ -11,7 +11,7 @@ use borrow.Author.Tests.{eqb-true, eqb-false}
 use Rattle.layout.specs.Choice.{pick, cases}
 use Rattle.layout.specs.Stack.{down}
 use Rattle.layout.specs.StackLaws.{length-down, down-set-above, down-push, down-pop}
-use Rattle.model.specs.State.{Thread, stackOf, current, innermost, isScope}
+use Rattle.model.specs.State.{Thread, entriesOf, current, innermost, isScope}
 use Rattle.model.specs.Scopes.{pushed, popped}
 use Rattle.model.specs.Invariant.{ThreadGood}
 
@@ -22,23 +22,23 @@ top-below l zero f = omega arith
 top-below l (suc n) f = f n (omega arith)
 
 module _ (h : Thread) where
-  pub length-stack : length (stackOf h) ≡ h .len
-  unfolding stackOf
+  pub length-stack : length (entriesOf h) ≡ h .len
+  unfolding entriesOf
   length-stack = length-down (h .entries) (h .len)
 
   -- a thread of no entries has an empty stack
-  pub stack-none : h .len ≡ 0 → stackOf h ≡ []
-  unfolding stackOf down
+  pub stack-none : h .len ≡ 0 → entriesOf h ≡ []
+  unfolding entriesOf down
   stack-none e = ap (down (h .entries)) e
 
   -- the stack, its top apart
-  pub stack-pop : 0 < h .len → stackOf h ≡ current (stackOf h) ∷ stackOf (popped h)
-  unfolding stackOf popped
+  pub stack-pop : 0 < h .len → entriesOf h ≡ current (entriesOf h) ∷ entriesOf (popped h)
+  unfolding entriesOf popped
   stack-pop k = rw (down-pop (h .entries) (h .len) k)
 
   module _ (o : ThreadGood h) where
-    pub stack-area : current (stackOf h) < 64
-    unfolding stackOf
+    pub stack-area : current (entriesOf h) < 64
+    unfolding entriesOf
     stack-area = top-below (h .entries) (h .len) (o .areas)
 
     pub popped-good : ThreadGood (popped h)
@@ -63,12 +63,12 @@ module _ (h : Thread) where
         within k l = omega arith
 
     module _ (q : ℕ) (k : h .len < 32) where
-      pub stack-push : stackOf (pushed h q) ≡ q ∷ stackOf h
-      unfolding stackOf pushed
+      pub stack-push : entriesOf (pushed h q) ≡ q ∷ entriesOf h
+      unfolding entriesOf pushed
       stack-push = down-push (h .entries) (h .len) q (omega (arith, o .room))
 
       pub pushed-good : q < 64 → 0 < h .kind → ThreadGood (pushed h q)
-      unfolding pushed stackOf
+      unfolding pushed entriesOf
       pushed-good low some = record {
         kind = o .kind;
         idle = λ e. absurd (omega arith);

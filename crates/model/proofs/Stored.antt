@@ -18,14 +18,14 @@ use Rattle.model.specs.Checks.{headerAt, live}
 use Rattle.model.specs.Threads.{startState, endState}
 use Rattle.model.specs.Scopes.{makeState, enterState, exitState}
 use Rattle.model.specs.Objects.{currentAt, allocateState, allocateMemory, allocateValue}
-use Rattle.model.specs.References.{storeAfter, loadStatus}
+use Rattle.model.specs.References.{storeAfter, loadRest}
 use Rattle.model.specs.Data.{dataIndex}
-use Rattle.model.specs.Calls.{Call, start, end, make, enter, exit, allocate, store, load, write, read, view, viewed, callStatus, callValue, callState, callMemory}
+use Rattle.model.specs.Calls.{Call, start, end, make, enter, exit, allocate, store, write, asks, load, callStatus, callValue, callState, callMemory}
 use Rattle.model.specs.Run.{Line}
-use Rattle.model.specs.History.{Object, History, occurrences, handles, historyStart, historyEnter, historyAllocate, historyStep, historyOf}
+use Rattle.model.specs.History.{Object, History, occurrences, handles, historyStart, historyEnter, historyAllocate, historyStep, historyFrom, historyOf}
 use Rattle.model.specs.Values.{storedStep, lastStored}
 use Rattle.model.specs.Claims.{In}
-use Rattle.model.proofs.Accepted.{AllocateOk, allocate-ok, SlotOk, slot-ok, StoreOk, store-ok, DataOk, data-ok}
+use Rattle.model.proofs.Accepted.{fitted-ok, admitted, AllocateOk, allocate-ok, SlotOk, slot-ok, StoreOk, store-ok, DataOk, data-ok}
 use Rattle.model.proofs.Tiles.{place, tiled-apart}
 use Rattle.model.proofs.Sound.{usedIn, Sound}
 use Rattle.model.proofs.Bounds.{current-area}
@@ -39,7 +39,7 @@ use Rattle.model.proofs.Traces.{area-below, exit-kept, made-or, made-in
 use Rattle.model.proofs.ValueMeanings.{stored-accepted, stored-refused}
 use Rattle.model.proofs.Openings.{carried-call}
 
--- slot j of the object with handle h holds f h j, for the objects of the book
+-- slot j of the object with handle h holds f h j, for the objects of the history
 abbrev Slots : State → Memory → History → (ℕ → ℕ → ℕ) → Type 0
 Slots s m b f = (a : ℕ) (x : Object) → In x (b .objects a) → (j : ℕ) → j < x .slots → wordAt s m a (suc (place x + j)) ≡ f (x .handle) j
 
@@ -56,7 +56,7 @@ module _ (s : State) (m : Memory) (b : History) (o : Sound s m b) where
     is-given : 0 < occurrences p (handles (b .objects (areaOf p)))
     is-given = live-given s m b o p lv
 
-    -- the object of the book that p names
+    -- the object of the history that p names
     abbrev target : Object
     target = given-tile s m b o p is-given .0
 
@@ -67,13 +67,13 @@ module _ (s : State) (m : Memory) (b : History) (o : Sound s m b) where
     target-handle = given-tile s m b o p is-given .2
 
     target-slots : slotsOf (headerAt s m p) ≡ target .slots
-    target-slots = given-head s m b o p is-given .0
+    target-slots = given-head s m b o p is-given .slots
 
-    target-words : dataOf (headerAt s m p) ≡ target .words
-    target-words = given-head s m b o p is-given .1
+    target-words : dataOf (headerAt s m p) ≡ target .dataWords
+    target-words = given-head s m b o p is-given .dataWords
 
     -- a slot of another object, or another word of p's, is as it was
-    other-slot : (i v : ℕ) → i < target .slots + target .words → (a : ℕ) (x : Object) → In x (b .objects a) → (j : ℕ) → j < x .slots
+    other-slot : (i v : ℕ) → i < target .slots + target .dataWords → (a : ℕ) (x : Object) → In x (b .objects a) → (j : ℕ) → j < x .slots
         → (x .handle ≡ p → j ≡ i → ⊥) → wordAt s (storeAfter s m p i v) a (suc (place x + j)) ≡ wordAt s m a (suc (place x + j))
     unfolding storeAfter
     other-slot i v l a x k j q ne = put-other-word s m b o (areaOf p) (suc (offsetOf p + i)) v (area-lt p) (omega (arith, given-ends s m b o p is-given))
@@ -88,7 +88,7 @@ module _ (s : State) (m : Memory) (b : History) (o : Sound s m b) where
             ne (ap (λ (y : Object). y .handle) is ∙ target-handle) (omega arith)
 
     -- the word itself is the new one
-    own-word : (i v : ℕ) → i < target .slots + target .words → wordAt s (storeAfter s m p i v) (areaOf p) (suc (offsetOf p + i)) ≡ v
+    own-word : (i v : ℕ) → i < target .slots + target .dataWords → wordAt s (storeAfter s m p i v) (areaOf p) (suc (offsetOf p + i)) ≡ v
     unfolding storeAfter
     own-word i v l = put-word s m b o (areaOf p) (suc (offsetOf p + i)) v (area-lt p) (omega (arith, given-ends s m b o p is-given))
 
@@ -117,9 +117,9 @@ module _ (s : State) (m : Memory) (b : History) (o : Sound s m b) where
   -- ---- an object is made
 
   module _ (f : ℕ → ℕ → ℕ) (w : Slots s m b f) where
-    module _ (t q r : ℕ) (ok : AllocateOk s m t q r) where
+    module _ (t q r : ℕ) (ok : AllocateOk s t q r) where
       abbrev made : Object
-      made = record { handle = allocateValue s (currentAt s t); slots = q; words = r }
+      made = record { handle = allocateValue s (currentAt s t); slots = q; dataWords = r }
 
       abbrev n : State
       n = allocateState s (currentAt s t) q r
@@ -148,25 +148,22 @@ module _ (s : State) (m : Memory) (b : History) (o : Sound s m b) where
     slots-still : (n : State) → ((a : ℕ) → 0 < usedIn s a → areaAt n a .start ≡ areaAt s a .start) → Slots n m b f
     slots-still n e a x i j u = ap (λ (y : ℕ). getD (storeOf m a) (y + suc (place x + j)) 0) (e a (omega (arith, slot-used a x i j u))) ∙ w a x i j u
 
-    slots-call : (c : Call) → callStatus s m c ≡ 0 → Sound (callState s c) (callMemory s m c) (historyStep b c (callValue s m c))
-        → Slots (callState s c) (callMemory s m c) (historyStep b c (callValue s m c)) (λ h j. storedStep h j (f h j) c (callValue s m c))
+    slots-call : (c : Call) → callStatus s m c ≡ 0 → Sound (callState s m c) (callMemory s m c) (historyStep b c (callValue s m c))
+        → Slots (callState s m c) (callMemory s m c) (historyStep b c (callValue s m c)) (λ h j. storedStep h j (f h j) c (callValue s m c))
     unfolding historyStart historyEnter
     slots-call (start t p) e z = slots-still (startState s t p) (λ a. carried-call s m b o (start t p) e a .start)
     slots-call (end t) e z = slots-still (endState s t) (λ a. carried-call s m b o (end t) e a .start)
     slots-call (make t q r) e z = slots-still (makeState s q r) (λ a. carried-call s m b o (make t q r) e a .start)
     slots-call (enter t q) e z = slots-still (enterState s t q) (λ a. carried-call s m b o (enter t q) e a .start)
     slots-call (exit t) e z = λ a x i. slots-still (exitState s t) (λ c. carried-call s m b o (exit t) e c .start) a x (exit-kept b t a x i)
-    slots-call (allocate t q r) e z = slots-allocate t q r (allocate-ok s m t q r e) z
+    slots-call (allocate t q r) e z = slots-allocate t q r (allocate-ok s t q r (fitted-ok s m _ e .1)) z
     slots-call (store t p q r) e z =
-        let k : StoreOk s m t p q r = store-ok s m t p q r e in
+        let k : StoreOk s m t p q r = store-ok s m t p q r (admitted s m t _ e .1) in
         slots-store p (k .at .used .object) f w q r (k .at .slot)
-    slots-call (load t p q) e z = w
     slots-call (write t p q r) e z =
-        let k : DataOk s m t p q = data-ok s m t p q e in
+        let k : DataOk s m t p q = data-ok s m t p q (admitted s m t _ e .1) in
         slots-write p (k .used .object) f w q r (k .index)
-    slots-call (read t p q) e z = w
-    slots-call (view t p) e z = w
-    slots-call (viewed t p) e z = w
+    slots-call (asks x) e z = w
 
 -- ---- the lines
 
@@ -176,7 +173,7 @@ Stored s m ls = Slots s m (historyOf ls) (λ h j. lastStored h j ls)
 
 module _ (s : State) (m : Memory) (ls : List Line) (o : Sound s m (historyOf ls)) (w : Stored s m ls) where
   pub stored-line : {l : Line} {n : State} {k : Memory} → Transition s m l n k → Sound n k (historyOf (l ∷ ls)) → Stored n k (l ∷ ls)
-  unfolding historyOf
+  unfolding historyFrom
   stored-line {l} d z a x i j u = ⊎-elim
       (λ y. rw (stored-accepted l ls (y .status) (x .handle) j (l .call) refl, y .state, y .memory, y .value)
       (slots-call s m (historyOf ls) o (λ h j. lastStored h j ls) w (l .call) (y .passed)
@@ -185,9 +182,9 @@ module _ (s : State) (m : Memory) (ls : List Line) (o : Sound s m (historyOf ls)
       d
 
   pub load-value : (t p q : ℕ) → callStatus s m (load t p q) ≡ 0 → callValue s m (load t p q) ≡ lastStored p q ls
-  unfolding loadStatus
+  unfolding loadRest
   load-value t p q e =
-      let k : SlotOk s m t p q = slot-ok s m t p q _ e .0 in
+      let k : SlotOk s m t p q = slot-ok s m t p q _ (admitted s m t _ e .1) .0 in
       let lv : live s m p ≡ true = k .used .object in
       rw (target-handle s m (historyOf ls) o p lv) at
       (w (areaOf p) (target s m (historyOf ls) o p lv) (target-in s m (historyOf ls) o p lv) q (omega (arith, k .slot, target-slots s m (historyOf ls) o p lv)))

@@ -11,7 +11,7 @@ use Rattle.model.specs.State.{Memory, wordAt}
 use Rattle.model.specs.SetUp.{lengthsOf, setUpStatus}
 use Rattle.model.specs.Checks.{fits, live}
 use Rattle.model.specs.Run.{Supplied, kept, other, Element, Line, World, suppliedTo, step, run, begin}
-use Rattle.model.specs.History.{Object, History, blank, occurrences, handles, historyOf}
+use Rattle.model.specs.History.{Object, History, blank, occurrences, handles, historyFrom, historyOf}
 use Rattle.model.specs.Claims.{In, Among, Since, made, stays, Names, Claims}
 use Rattle.model.proofs.Sound.{Sound}
 use Rattle.model.proofs.Keeps.{good-first}
@@ -20,7 +20,7 @@ use Rattle.model.proofs.NestingClaims.{started, stacks, opens, parents,
 use Rattle.model.proofs.Live.{live-given, given-live, dead-not}
 use Rattle.model.proofs.KeepsMemory.{sound-first}
 use Rattle.model.proofs.MemoryClaims.{one-object, slot-holds, within, given-in, in-given}
-use Rattle.model.proofs.Outcomes.{Transition, sound-line, lineOf, step-transition}
+use Rattle.model.proofs.Outcomes.{Transition, sound-line, lineFor, step-transition}
 use Rattle.model.proofs.Traces.{none-in, born, gone-run, among-some, area-below, open-area}
 use Rattle.model.proofs.Openings.{Opened, opened-first, opened-line}
 use Rattle.model.proofs.Stored.{Stored, stored-line}
@@ -28,7 +28,7 @@ use Rattle.model.proofs.LineClaims.{AllAnswer, line-answers, each-answe
 
 -- ---- one element of the list
 
--- a world with the book of its trace
+-- a world with the history of its trace
 abbrev Holds : World → Type 0
 Holds w = Sound (w .state) (w .memory) (historyOf (w .trace))
 
@@ -37,7 +37,7 @@ module _ (w : World) (e : Element) where
   supplied = suppliedTo (w .state) (w .memory) (e .supplied)
 
   abbrev line : Line
-  line = lineOf (w .state) supplied (e .call)
+  line = lineFor (w .state) supplied (e .call)
 
   trace-is : step w e .trace ≡ line ∷ w .trace
   unfolding step
@@ -55,7 +55,7 @@ module _ (w : World) (e : Element) where
   step-is o = step-transition (w .state) (w .memory) supplied (o .supplied) (supplied-is (e .supplied)) (e .call)
 
   step-holds : Holds w → Holds (step w e)
-  unfolding historyOf
+  unfolding historyFrom
   step-holds o = rw trace-is (sound-line (historyOf (w .trace)) o (step-is o))
 
 -- ---- the invariant of a world, and its trace
@@ -78,9 +78,9 @@ module _ (w : World) (e : Element) (o : Told w) where
   step-since a x i = rw trace-is (⊎-elim
       (λ k. stays (o .since a x k) (λ h. rw trace-is at (open-area (step w e .state) (step w e .memory) (historyOf (step w e .trace)) now a x i h)))
       (λ k. made k)
-      (born (historyOf (w .trace)) (line w e) a x (unfold historyOf in (rw trace-is at i))))
+      (born (historyOf (w .trace)) (line w e) a x (unfold historyFrom in (rw trace-is at i))))
 
-  pub step-told : Told (step w e)
+  step-told : Told (step w e)
   step-told = record {
     holds = now;
     since = step-since;
@@ -95,7 +95,7 @@ run-told w [] o = o
 run-told w (e ∷ es) o = run-told (step w e) es (step-told w e o)
 
 begin-told : (h i : ℕ) (m : Memory) → setUpStatus h i (lengthsOf m) ≡ 0 → Told (begin h i m)
-unfolding begin historyOf blank
+unfolding begin historyFrom blank
 begin-told h i m e = record {
   holds = sound-first h i m e (good-first h i (lengthsOf m) e) (same-first h i (lengthsOf m));
   since = λ a x k. absurd (none-in k);
@@ -130,7 +130,7 @@ module _ (w : World) (o : Told w) where
       dead-not (run w rest .state) (run w rest .memory) (historyOf (run w rest .trace)) z x
       (z .dead x (among-some (gone-run w rest x i)))
 
-  pub claimed : Claims w (historyOf (w .trace))
+  claimed : Claims w (historyOf (w .trace))
   claimed = record {
     started = started (w .state) b (sound .good) (sound .same);
     stacks = stacks (w .state) b (sound .good) (sound .same);

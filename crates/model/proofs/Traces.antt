@@ -1,4 +1,4 @@
--- What a trace tells beside the book: where an object comes from, that what is gone stays gone, that an area with objects is open.
+-- What a trace tells beside the history: where an object comes from, that what is gone stays gone, that an area with objects is open.
 -- Assumes nothing.
 use Prim.Native.Nat.{ℕ, _≤_, _<_}
 use mathlib.Core.Bool.{false}
@@ -11,9 +11,9 @@ use native.Mathlib.Omega.{arith}
 use borrow.Author.Tests.{eqb-true, eqb-false, ltb-true, ltb-false}
 use Rattle.layout.specs.Choice.{cases}
 use Rattle.model.specs.State.{State, Memory, current, isOpen}
-use Rattle.model.specs.Calls.{Call, start, end, make, enter, exit, allocate, store, load, write, read, view, viewed}
+use Rattle.model.specs.Calls.{Call, start, end, make, enter, exit, allocate, store, write, asks}
 use Rattle.model.specs.Run.{Element, Line, World, step, run}
-use Rattle.model.specs.History.{Object, History, rowOf, putAt, below, occurrences, handles, isScopeOnNone, historyStart, historyEnter, historyExit, historyAllocate, historyStep, historyLine, historyOf}
+use Rattle.model.specs.History.{Object, History, threadRow, putAt, below, occurrences, handles, isScopeOnNone, historyStart, historyEnter, historyExit, historyAllocate, historyStep, historyLine, historyFrom, historyOf}
 use Rattle.model.specs.Claims.{Open, In, Among, Allocates}
 use Rattle.model.specs.Invariant.{countIn}
 use Rattle.model.proofs.Lists.{occ-same, occ-other}
@@ -23,7 +23,7 @@ use Rattle.model.proofs.Sound.{Sound}
 use Rattle.model.proofs.NestingClaims.{opens}
 use Rattle.model.proofs.MemoryClaims.{no-objects-above}
 
--- ---- what the trace tells beside the book
+-- ---- what the trace tells beside the history
 
 -- what is put at one area is seen there and nowhere else
 put-in : (f : ℕ → List Object) (q : ℕ) (v : List Object) (a : ℕ) (x : Object) → In x (putAt f q v a) → (In x v × (a ≡ q)) ⊎ In x (f a)
@@ -44,35 +44,35 @@ top-or {x} (In.later {l = k} i) y l e = let z : k ≡ l = cc in inr (rw z at i)
 pub exit-kept : (b : History) (t a : ℕ) (x : Object) → In x (historyExit b t .objects a) → In x (b .objects a)
 unfolding historyExit
 exit-kept b t a x i =
-    cases (isScopeOnNone (current (rowOf b t)) (set (b .rows) t (below (rowOf b t))))
-    (λ e. ⊎-elim (λ k. absurd (none-in (k .0))) (λ k. k) (put-in (b .objects) (current (rowOf b t)) [] a x (rw e at i)))
+    cases (isScopeOnNone (current (threadRow b t)) (set (b .rows) t (below (threadRow b t))))
+    (λ e. ⊎-elim (λ k. absurd (none-in (k .0))) (λ k. k) (put-in (b .objects) (current (threadRow b t)) [] a x (rw e at i)))
     (λ e. rw e at i)
 
 -- an allocation makes one, in the area of the row's top
 pub made-or : (b : History) (t : ℕ) (o : Object) (a : ℕ) (x : Object) → In x (historyAllocate b t o .objects a)
-    → ((a ≡ current (rowOf b t)) × (x ≡ o)) ⊎ In x (b .objects a)
+    → ((a ≡ current (threadRow b t)) × (x ≡ o)) ⊎ In x (b .objects a)
 unfolding historyAllocate
 made-or b t o a x i = ⊎-elim
-    (λ k. ⊎-elim (λ z. inl (k .1, z)) (λ z. inr (rw (← (k .1)) at z)) (top-or (k .0) o (b .objects (current (rowOf b t))) refl))
+    (λ k. ⊎-elim (λ z. inl (k .1, z)) (λ z. inr (rw (← (k .1)) at z)) (top-or (k .0) o (b .objects (current (threadRow b t))) refl))
     (λ k. inr k)
-    (put-in (b .objects) (current (rowOf b t)) (o ∷ b .objects (current (rowOf b t))) a x i)
+    (put-in (b .objects) (current (threadRow b t)) (o ∷ b .objects (current (threadRow b t))) a x i)
 
-pub made-in : (b : History) (t : ℕ) (o : Object) → In o (historyAllocate b t o .objects (current (rowOf b t)))
+pub made-in : (b : History) (t : ℕ) (o : Object) → In o (historyAllocate b t o .objects (current (threadRow b t)))
 unfolding historyAllocate
-made-in b t o = rw (put-same (b .objects) (current (rowOf b t)) (o ∷ b .objects (current (rowOf b t)))) In.first
+made-in b t o = rw (put-same (b .objects) (current (threadRow b t)) (o ∷ b .objects (current (threadRow b t)))) In.first
 
 module _ (b : History) (l : Line) (ok : l .reply .status ≡ 0) (a : ℕ) (x : Object) where
   abbrev Born : Type 0
   Born = In x (b .objects a) ⊎ Allocates b l (x .handle) a
 
   born-allocate : (t q r : ℕ) → l .call ≡ allocate t q r
-      → In x (historyAllocate b t (record { handle = l .reply .value; slots = q; words = r }) .objects a) → Born
+      → In x (historyAllocate b t (record { handle = l .reply .value; slots = q; dataWords = r }) .objects a) → Born
   born-allocate t q r e i = ⊎-elim
-      (λ k. inr (record { thread = t; slots = q; words = r; call = e; accepted = ok; gave = sym (ap (λ (y : Object). y .handle) (k .1)); area = sym (k .0) }))
+      (λ k. inr (record { thread = t; slots = q; dataWords = r; call = e; accepted = ok; gave = sym (ap (λ (y : Object). y .handle) (k .1)); area = sym (k .0) }))
       (λ k. inl k)
-      (made-or b t (record { handle = l .reply .value; slots = q; words = r }) a x i)
+      (made-or b t (record { handle = l .reply .value; slots = q; dataWords = r }) a x i)
 
-  -- an object of the book has been there, or the line made it
+  -- an object of the history has been there, or the line made it
   born-step : (c : Call) → l .call ≡ c → In x (historyStep b c (l .reply .value) .objects a) → Born
   unfolding historyStart historyEnter
   born-step (start t p) e i = inl i
@@ -82,11 +82,8 @@ module _ (b : History) (l : Line) (ok : l .reply .status ≡ 0) (a : ℕ) (x : O
   born-step (exit t) e i = inl (exit-kept b t a x i)
   born-step (allocate t q r) e i = born-allocate t q r e i
   born-step (store t p q r) e i = inl i
-  born-step (load t p q) e i = inl i
   born-step (write t p q r) e i = inl i
-  born-step (read t p q) e i = inl i
-  born-step (view t p) e i = inl i
-  born-step (viewed t p) e i = inl i
+  born-step (asks y) e i = inl i
 
 pub born : (b : History) (l : Line) (a : ℕ) (x : Object) → In x (historyLine b l .objects a) → In x (b .objects a) ⊎ Allocates b l (x .handle) a
 unfolding historyLine
@@ -103,8 +100,8 @@ among-after x (y ∷ k) l i = Among.later (among-after x k l i)
 gone-exit : (b : History) (t x : ℕ) → Among x (b .gone) → Among x (historyExit b t .gone)
 unfolding historyExit
 gone-exit b t x i =
-    cases (isScopeOnNone (current (rowOf b t)) (set (b .rows) t (below (rowOf b t))))
-    (λ e. rw e (among-after x (handles (b .objects (current (rowOf b t)))) (b .gone) i))
+    cases (isScopeOnNone (current (threadRow b t)) (set (b .rows) t (below (threadRow b t))))
+    (λ e. rw e (among-after x (handles (b .objects (current (threadRow b t)))) (b .gone) i))
     (λ e. rw e i)
 
 gone-step : (b : History) (c : Call) (v x : ℕ) → Among x (b .gone) → Among x (historyStep b c v .gone)
@@ -116,11 +113,8 @@ gone-step b (enter t q) v x i = i
 gone-step b (exit t) v x i = gone-exit b t x i
 gone-step b (allocate t q r) v x i = i
 gone-step b (store t p q r) v x i = i
-gone-step b (load t p q) v x i = i
 gone-step b (write t p q r) v x i = i
-gone-step b (read t p q) v x i = i
-gone-step b (view t p) v x i = i
-gone-step b (viewed t p) v x i = i
+gone-step b (asks y) v x i = i
 
 gone-line : (b : History) (l : Line) (x : ℕ) → Among x (b .gone) → Among x (historyLine b l .gone)
 unfolding historyLine
@@ -128,14 +122,14 @@ gone-line b l x i = cases (eqb (l .reply .status) 0) (λ e. rw e (gone-step b (l
 
 -- with any lines more
 pub gone-onto : (ks ls : List Line) (x : ℕ) → Among x (historyOf ls .gone) → Among x (historyOf (ks ++ ls) .gone)
-unfolding historyOf
+unfolding historyFrom
 gone-onto [] ls x i = i
 gone-onto (k ∷ ks) ls x i = gone-line (historyOf (ks ++ ls)) k x (gone-onto ks ls x i)
 
 pub gone-run : (w : World) (es : List Element) (x : ℕ) → Among x (historyOf (w .trace) .gone) → Among x (historyOf (run w es .trace) .gone)
 unfolding run
 gone-run w [] x i = i
-gone-run w (e ∷ es) x i = gone-run (step w e) es x (unfold step historyOf in gone-line (historyOf (w .trace)) _ x i)
+gone-run w (e ∷ es) x i = gone-run (step w e) es x (unfold step historyFrom in gone-line (historyOf (w .trace)) _ x i)
 
 pub among-some : {x : ℕ} {l : List ℕ} → Among x l → 0 < occurrences x l
 among-some {x} (Among.first {l = l}) = omega (arith, occ-same x l)

@@ -6,7 +6,7 @@ use mathlib.Core.Path.{_≡_, refl}
 use lib.ListN.{length}
 use Rattle.layout.specs.Handle.{handleOf, offsetOf, areaOf, generationOf}
 use Rattle.layout.specs.Header.{headerOf, slotsOf, dataOf}
-use Rattle.model.specs.Calls.{Call, start, end, make, enter, exit, allocate, store, load, write, read, view, viewed}
+use Rattle.model.specs.Calls.{Call, start, end, make, enter, exit, allocate, store, load, write, read, view, viewStatus}
 use Rattle.model.specs.Run.{World}
 use Rattle.model.proofs.SampleRuns.{answer, after, values, each, copies, first, busy, inHeap, inImmortal, in2, in3}
 
@@ -55,7 +55,7 @@ read-values = refl
 
 -- "The value is 0 where none is named"
 pub other-values : values busy
-    (start 4 2 ∷ end 4 ∷ make 2 4 2 ∷ store 2 in2 0 inHeap ∷ write 2 in2 0 7 ∷ view 2 in2 ∷ viewed 2 in2 ∷ [])
+    (start 4 2 ∷ end 4 ∷ make 2 4 2 ∷ store 2 in2 0 inHeap ∷ write 2 in2 0 7 ∷ view 2 in2 ∷ viewStatus 2 in2 ∷ [])
     ≡ copies 7 0
 unfolding values busy
 other-values = refl
@@ -108,7 +108,7 @@ unfolding part written busy after answer
 no-parts = refl
 
 -- "a call beside it yields the status": the view's own is 0, the other's is 2, 13, 5, and 0 also where there is no data word
-pub part-statuses : each busy (view 16 in2 ∷ view 2 0 ∷ view 3 inHeap ∷ viewed 16 in2 ∷ viewed 2 0 ∷ viewed 3 inHeap ∷ viewed 2 in2 ∷ viewed 2 in3 ∷ [])
+pub part-statuses : each busy (view 16 in2 ∷ view 2 0 ∷ view 3 inHeap ∷ viewStatus 16 in2 ∷ viewStatus 2 0 ∷ viewStatus 3 inHeap ∷ viewStatus 2 in2 ∷ viewStatus 2 in3 ∷ [])
     ≡ 0 ∷ 0 ∷ 0 ∷ 2 ∷ 13 ∷ 5 ∷ 0 ∷ 0 ∷ []
 unfolding each busy
 part-statuses = refl
@@ -116,7 +116,7 @@ part-statuses = refl
 -- no other call shows a word
 pub no-other-parts : map (λ (c : Call). length (answer busy c .words))
     (start 4 2 ∷ end 1 ∷ make 2 4 2 ∷ enter 2 0 ∷ exit 2 ∷ allocate 2 0 0
-    ∷ store 2 in2 0 inHeap ∷ load 2 in2 0 ∷ write 2 in2 0 7 ∷ read 2 in2 0 ∷ viewed 2 in2 ∷ [])
+    ∷ store 2 in2 0 inHeap ∷ load 2 in2 0 ∷ write 2 in2 0 7 ∷ read 2 in2 0 ∷ viewStatus 2 in2 ∷ [])
     ≡ copies 11 0
 unfolding busy answer
 no-other-parts = refl

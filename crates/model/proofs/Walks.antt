@@ -6,22 +6,17 @@ use mathlib.Core.List.{List, [], _∷_}
 use mathlib.Core.Path.{_≡_, refl, sym, ap, _∙_, subst}
 use mathlib.Core.Logic.{_≢_}
 use lib.ListN.{length, getD}
-use lib.Dec.{ltb, leb, eqb}
+use lib.Dec.{ltb, eqb}
 use native.Mathlib.Omega.{arith}
-use borrow.Author.Tests.{leb-true, leb-false, eqb-true, eqb-false, lt-ltb}
+use borrow.Author.Tests.{eqb-true, eqb-false, lt-ltb}
 use Rattle.layout.specs.Choice.{cases}
 use Rattle.layout.specs.Stack.{down}
 use Rattle.layout.specs.StackLaws.{length-down}
-use Rattle.model.specs.State.{current}
 use Rattle.model.specs.History.{occurrences}
-use Rattle.model.specs.Claims.{Walk, ends, goes, Meets, here, up, InOrder, none, keep, skip, onRow, scan}
-use Rattle.model.specs.Invariant.{scopesOf, Nested}
-use Rattle.model.proofs.Lists.{occ-same, occ-other, scopes-low, scopes-high, occ-scopes}
-
-pub scopes-order : (r : List ℕ) → InOrder (scopesOf r) r
-unfolding scopesOf
-scopes-order [] = none
-scopes-order (x ∷ r) = cases (leb 2 x) (λ e. rw e (keep (scopes-order r))) (λ e. rw e (skip (scopes-order r)))
+use Rattle.model.specs.Claims.{Walk, ends, goes, Meets, here, up, onRow, scan}
+use Rattle.model.specs.Invariant.{branchOf, firstOf, Nested}
+use Rattle.model.proofs.Lists.{occ-same, occ-other, occ-more, scopes-high, occ-scopes}
+use Rattle.model.proofs.Nesting.{Chain, chain-of}
 
 on-row-occ : (a : ℕ) (l : List ℕ) → onRow a l ≡ ltb 0 (occurrences a l)
 unfolding onRow
@@ -33,24 +28,19 @@ on-row-occ a (x ∷ l) =
     (λ e. rw (e, occ-other a x l (eqb-false x a e)) (on-row-occ a l))
 
 module _ (par : ℕ → ℕ) (dis : ℕ → List ℕ) where
-  -- the walk from the innermost scope is the nesting
-  pub walk-is : (l : List ℕ) → Nested par dis l → Walk par (current l) l
+  -- the walk from the first scope of a branch is the branch
+  pub walk-is : (l : List ℕ) → Chain par dis l → Walk par (firstOf l) l
   walk-is [] n = ends
   walk-is (x ∷ l) n = goes (n .0 .scope) (subst (λ c. Walk par c l) (sym (n .0 .parent-is)) (walk-is l (n .1)))
 
   module _ (a : ℕ) (h : 2 ≤ a) where
-    pub meets-occ : (l : List ℕ) → Nested par dis l → (c : ℕ) → c ≡ current l → Meets par a c → 0 < occurrences a l
+    pub meets-occ : (l : List ℕ) → Chain par dis l → (c : ℕ) → c ≡ firstOf l → Meets par a c → 0 < occurrences a l
     meets-occ [] n c e here = absurd (omega arith)
     meets-occ [] n c e (up k m) = absurd (omega arith)
     meets-occ (x ∷ l) n c e here = rw (← e) (omega (arith, occ-same a l))
-    meets-occ (x ∷ l) n c e (up k m) = more (meets-occ l (n .1) (par c) (ap par e ∙ n .0 .parent-is) m)
-      where
-        more : 0 < occurrences a l → 0 < occurrences a (x ∷ l)
-        more p = cases (eqb x a)
-            (λ d. rw (eqb-true x a d, occ-same a l) (omega arith))
-            (λ d. rw (occ-other a x l (eqb-false x a d)) p)
+    meets-occ (x ∷ l) n c e (up k m) = occ-more a x l (meets-occ l (n .1) (par c) (ap par e ∙ n .0 .parent-is) m)
 
-    pub occ-meets : (l : List ℕ) → Nested par dis l → 0 < occurrences a l → Meets par a (current l)
+    pub occ-meets : (l : List ℕ) → Chain par dis l → 0 < occurrences a l → Meets par a (firstOf l)
     unfolding occurrences
     occ-meets [] n p = absurd (omega arith)
     occ-meets (x ∷ l) n p =
@@ -59,46 +49,30 @@ module _ (par : ℕ → ℕ) (dis : ℕ → List ℕ) where
         (λ e. rw (eqb-true x a e) here)
         (λ e. up (n .0 .scope) (subst (Meets par a) (sym (n .0 .parent-is)) (occ-meets l (n .1) (rw (occ-other a x l (eqb-false x a e)) at p))))
 
-    -- the part of a row from a down
-    pub row-at : (r : List ℕ) → Nested par dis (scopesOf r) → 0 < occurrences a r → (k : List ℕ) × Nested par dis (a ∷ k) × InOrder (a ∷ k) r
-    unfolding occurrences
-    row-at [] n p = absurd (omega arith)
-    row-at (x ∷ r) n p =
-        cases
-        (eqb x a)
-        (λ e. (scopesOf r, rw (eqb-true x a e, scopes-high a r h) at n, rw (eqb-true x a e) (keep (scopes-order r))))
-        (λ e. let z : (k : List ℕ) × Nested par dis (a ∷ k) × InOrder (a ∷ k) r = row-at r (below x r n) (rw (occ-other a x r (eqb-false x a e)) at p) in (z .0, z .1, skip (z .2)))
-      where
-        below : (x : ℕ) (r : List ℕ) → Nested par dis (scopesOf (x ∷ r)) → Nested par dis (scopesOf r)
-        below x r n = cases (leb 2 x) (λ e. (rw (scopes-high x r (leb-true 2 x e)) at n) .1) (λ e. rw (scopes-low x r (leb-false 2 x e)) at n)
-
-    found : (x c : ℕ) (r : List ℕ) → 2 ≤ c → x ≡ c → onRow a (x ∷ r) ≡ ltb 0 (occurrences a (c ∷ scopesOf r))
+    found : (x c : ℕ) (r : List ℕ) → 2 ≤ c → x ≡ c → onRow a (x ∷ r) ≡ ltb 0 (occurrences a (c ∷ branchOf r))
     found x c r hc e = rw (e, ← scopes-high c r hc, occ-scopes a h (c ∷ r)) (on-row-occ a (c ∷ r))
 
-    -- the scan from c on: what it finds below c is on the nesting from c on
-    pub scan-is : (c : ℕ) → 2 ≤ c → (r : List ℕ) → Nested par dis (scopesOf r) → 0 < occurrences c r
-        → (k : List ℕ) × Nested par dis (c ∷ k) × (scan a c r ≡ ltb 0 (occurrences a (c ∷ k)))
+    -- the scan from c on: what it finds below c is on the branch from c on
+    pub scan-is : (c : ℕ) → 2 ≤ c → (r : List ℕ) → Nested par dis r → 0 < occurrences c r
+        → (k : List ℕ) × Chain par dis (c ∷ k) × (scan a c r ≡ ltb 0 (occurrences a (c ∷ k)))
     unfolding occurrences scan
     scan-is c hc [] n p = absurd (omega arith)
     scan-is c hc (x ∷ r) n p =
         cases
         (eqb x c)
-        (λ e. (scopesOf r, rw (eqb-true x c e, scopes-high c r hc) at n, rw e (found x c r hc (eqb-true x c e))))
-        (λ e. rw e (scan-is c hc r (below x r n) (rw (occ-other c x r (eqb-false x c e)) at p)))
-      where
-        below : (x : ℕ) (r : List ℕ) → Nested par dis (scopesOf (x ∷ r)) → Nested par dis (scopesOf r)
-        below x r n = cases (leb 2 x) (λ e. (rw (scopes-high x r (leb-true 2 x e)) at n) .1) (λ e. rw (scopes-low x r (leb-false 2 x e)) at n)
+        (λ e. (branchOf r, ((rw (eqb-true x c e) at (n .0)) hc, chain-of par dis r (n .1)), rw e (found x c r hc (eqb-true x c e))))
+        (λ e. rw e (scan-is c hc r (n .1) (rw (occ-other c x r (eqb-false x c e)) at p)))
 
-    -- where the display of the nesting has a
-    pub down-at : (l : List ℕ) (m : ℕ) → Nested par dis (down l m) → 0 < occurrences a (down l m)
-        → (j : List ℕ) × Nested par dis (a ∷ j) × (getD l (length j) 0 ≡ a) × (length j < m)
+    -- where the display of a branch has a
+    pub down-at : (l : List ℕ) (m : ℕ) → Chain par dis (down l m) → 0 < occurrences a (down l m)
+        → (j : List ℕ) × Chain par dis (a ∷ j) × (getD l (length j) 0 ≡ a) × (length j < m)
     unfolding down occurrences
     down-at l zero n p = absurd (omega arith)
     down-at l (suc m) n p =
         cases
         (eqb (getD l m 0) a)
         (λ e. (down l m, rw (eqb-true (getD l m 0) a e) at n, rw (length-down l m) (eqb-true (getD l m 0) a e), omega (arith, length-down l m)))
-        (λ e. let z : (j : List ℕ) × Nested par dis (a ∷ j) × (getD l (length j) 0 ≡ a) × (length j < m)
+        (λ e. let z : (j : List ℕ) × Chain par dis (a ∷ j) × (getD l (length j) 0 ≡ a) × (length j < m)
         = down-at l m (n .1) (rw (occ-other a (getD l m 0) (down l m) (eqb-false (getD l m 0) a e)) at p)
         in (z .0, z .1, z .2, omega (arith, z .3)))
 

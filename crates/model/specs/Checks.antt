@@ -1,4 +1,4 @@
--- The checks with which calls begin, the rights, and liveness of a handle.
+-- The checks with which calls begin, what a call on the state alone does, the rights, and liveness of a handle.
 -- Assumes nothing.
 use Prim.Native.Nat.{ℕ, suc, _+_}
 use mathlib.Core.Bool.{Bool, not, _&&_, _||_}
@@ -23,13 +23,32 @@ fits s m =
 abbrev pub isStarted : State → ℕ → Bool
 isStarted s t = ltb 0 (threadAt s t .kind)
 
--- "1: lengths are not those of set-up", then "2: thread above 15, or not started", then the rest of a call's refusals
-unfoldable pub admit : State → Memory → ℕ → ℕ → ℕ
-admit s m t rest = refuse (not (fits s m)) 1 (refuse (leb 16 t) 2 (refuse (not (isStarted s t)) 2 rest))
+-- "1: lengths are not those of set-up", then the rest of a call's refusals
+unfoldable pub fitted : State → Memory → ℕ → ℕ
+fitted s m rest = refuse (not (fits s m)) 1 rest
 
--- "5: rights table has 0": the right of thread t's kind in the class of area a
+-- "2: thread above 15, or not started", then the rest
+unfoldable pub called : State → ℕ → ℕ → ℕ
+called s t rest = refuse (leb 16 t) 2 (refuse (not (isStarted s t)) 2 rest)
+
+-- both
+abbrev pub admit : State → Memory → ℕ → ℕ → ℕ
+admit s m t rest = fitted s m (called s t rest)
+
+-- A call that touches no lent word, as a function of the state alone: the first refusal after 1, 0 where none meets; the value and the state
+-- of the call that is accepted.
+pub record Change : Type 0 where
+  pub status : ℕ
+  pub value : ℕ
+  pub state : State
+
+-- "5: rights table has 0": the right of a kind in the class of area a
+abbrev pub kindMay : State → ℕ → Right → ℕ → Bool
+kindMay s kind right a = allows kind (classOf a) right
+
+-- of thread t's kind
 unfoldable pub hasRight : State → ℕ → Right → ℕ → Bool
-hasRight s t right a = allows (threadAt s t .kind) (classOf a) right
+hasRight s t right a = kindMay s (threadAt s t .kind) right a
 
 -- the header that a handle leads to
 abbrev pub headerAt : State → Memory → ℕ → ℕ
@@ -53,10 +72,9 @@ isObject s m p = not (eqb p null) && live s m p
 unfoldable pub isReference : State → Memory → ℕ → Bool
 isReference s m x = eqb x null || live s m x
 
--- refusals 1, 2, 13, 5, with which every call on an object begins: "U in 09, 0a and the shown part (the object's area), and in 07 and 08 U
--- for the object"
-unfoldable pub useStatus : State → Memory → ℕ → ℕ → ℕ → ℕ
-useStatus s m t p rest =
-    admit s m t
-    (refuse (not (isObject s m p)) 13
-    (refuse (not (hasRight s t Use (areaOf p))) 5 rest))
+-- refusals 13 and 5, with which every call on an object goes on after 1 and 2: "U in 09, 0a and the shown part (the object's area), and in
+-- 07 and 08 U for the object"
+unfoldable pub useRest : State → Memory → ℕ → ℕ → ℕ → ℕ
+useRest s m t p rest =
+    refuse (not (isObject s m p)) 13
+    (refuse (not (hasRight s t Use (areaOf p))) 5 rest)

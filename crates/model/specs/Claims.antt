@@ -13,7 +13,7 @@ use Rattle.model.specs.State.{State, Memory, areaAt, threadAt, stackAt, 
 use Rattle.model.specs.Checks.{isStarted, live}
 use Rattle.model.specs.Calls.{enter, exit, allocate, load}
 use Rattle.model.specs.Run.{Element, Line, World, run}
-use Rattle.model.specs.History.{Object, History, rowOf, occurrences, total, historyOf}
+use Rattle.model.specs.History.{Object, History, threadRow, occurrences, total, historyOf}
 use Rattle.model.specs.Values.{lastStored, entryGeneration, entriesLeft}
 
 -- ---- the words of the claims
@@ -47,7 +47,7 @@ unfoldable pub scan : ℕ → ℕ → List ℕ → Bool
 scan a b [] = false
 scan a b (x ∷ l) = pick (eqb x b) (onRow a (x ∷ l)) (scan a b l)
 
--- o is one of a list of objects. "An object is live until it is gone": the live ones are those that the book has in an area.
+-- o is one of a list of objects. "An object is live until it is gone": the live ones are those that the history has in an area.
 pub data In (o : Object) : List Object → Type 0 where
   first : {l : List Object} → In o (o ∷ l)
   later : {x : Object} {l : List Object} → In o l → In o (x ∷ l)
@@ -62,7 +62,7 @@ pub data Among (x : ℕ) : List ℕ → Type 0 where
 pub record Within (s : State) (m : Memory) (a : ℕ) (o : Object) : Type 0 where
   pub area : areaOf (o .handle) ≡ a
   pub number : a < 64
-  pub ends : suc (offsetOf (o .handle) + o .slots + o .words) ≤ areaAt s a .used
+  pub ends : suc (offsetOf (o .handle) + o .slots + o .dataWords) ≤ areaAt s a .used
   pub used : areaAt s a .used ≤ areaAt s a .size
   pub inside : areaAt s a .start + areaAt s a .size ≤ length (storeOf m a)
 
@@ -70,11 +70,11 @@ pub record Within (s : State) (m : Memory) (a : ℕ) (o : Object) : Type 0 where
 pub record Allocates (b : History) (l : Line) (x a : ℕ) : Type 0 where
   pub thread : ℕ
   pub slots : ℕ
-  pub words : ℕ
-  pub call : l .call ≡ allocate thread slots words
+  pub dataWords : ℕ
+  pub call : l .call ≡ allocate thread slots dataWords
   pub accepted : l .reply .status ≡ 0
   pub gave : l .reply .value ≡ x
-  pub area : current (rowOf b thread) ≡ a
+  pub area : current (threadRow b thread) ≡ a
 
 -- by the list of calls alone: an allocation gave x in area a, and if a is a scope, it has not been empty of threads since. The newest line
 -- is the first.
@@ -82,7 +82,7 @@ pub data Since (x a : ℕ) : List Line → Type 0 where
   made : {l : Line} {ls : List Line} → Allocates (historyOf ls) l x a → Since x a (l ∷ ls)
   stays : {l : Line} {ls : List Line} → Since x a ls → (2 ≤ a → Open (historyOf (l ∷ ls)) a) → Since x a (l ∷ ls)
 
--- "names the object with that handle": x is the handle of a live object of the book, one "in the heap, in immortal memory, or in a scope
+-- "names the object with that handle": x is the handle of a live object of the history, one "in the heap, in immortal memory, or in a scope
 -- that, by the list of calls alone, has never been empty of threads since that object was made"
 pub record Names (b : History) (ls : List Line) (x : ℕ) : Type 0 where
   pub area : ℕ
@@ -98,14 +98,14 @@ pub data Follows (l : Line) (before : List Line) : List Line → Type 0 where
 
 -- ---- the claims
 
--- Of a world that a list of calls has led to, with its book. None holds by a read past the end of a table or of a store: there a thread is
+-- Of a world that a list of calls has led to, with its history. None holds by a read past the end of a table or of a store: there a thread is
 -- not started, an area is not open, a row is empty, a map bit is 0, an entry of a display is 0, which is no scope. Threads and scopes that
--- the book has lie inside (threads, scopes), and so do the entries of a stack, which would read as the heap (room), and every slot of a
+-- the history has lie inside (threads, scopes), and so do the entries of a stack, which would read as the heap (room), and every slot of a
 -- live object, which would read as null (within).
 pub record Claims (w : World) (b : History) : Type 0 where
   -- 1. "The core has the book's started threads, stacks, open scopes and parents."
   pub started : (t : ℕ) → isStarted (w .state) t ≡ b .started t
-  pub stacks : (t : ℕ) → stackAt (w .state) t ≡ rowOf b t
+  pub stacks : (t : ℕ) → stackAt (w .state) t ≡ threadRow b t
   pub opens : (a : ℕ) → 2 ≤ a → (isOpen (w .state) a ≡ true) ↔ Open b a
   pub parents : (a : ℕ) → areaAt (w .state) a .parent ≡ b .parents a
   -- "Each open scope has a display: the row of its ancestors, outermost first, itself last." One that is not open has none.
@@ -115,10 +115,10 @@ pub record Claims (w : World) (b : History) : Type 0 where
   pub threads : (t : ℕ) → b .started t ≡ true → t < 16
   pub scopes : (a : ℕ) → Open b a → a < 64
   -- "A stack has at most 32 entries."
-  pub heights : (t : ℕ) → length (rowOf b t) ≤ 32
+  pub heights : (t : ℕ) → length (threadRow b t) ≤ 32
   pub room : (t : ℕ) → threadAt (w .state) t .len ≤ length (threadAt (w .state) t .entries)
   -- 2. "Every thread in a scope stands in all that scope's ancestors, in their order."
-  pub order : (t a : ℕ) → 2 ≤ a → 0 < occurrences a (rowOf b t) → (l : List ℕ) × Walk (b .parents) a l × InOrder l (rowOf b t)
+  pub order : (t a : ℕ) → 2 ≤ a → 0 < occurrences a (threadRow b t) → (l : List ℕ) × Walk (b .parents) a l × InOrder l (threadRow b t)
   -- 3. "Every reference in a live object is null or names a live object: one in the heap, in immortal memory, or in a scope that, by the list
   -- of calls alone, has never been empty of threads since that object was made." "a reference is the lent word in one of its slots"
   pub references : (a : ℕ) (o : Object) → In o (b .objects a) → (i : ℕ) → i < o .slots
@@ -135,8 +135,8 @@ pub record Claims (w : World) (b : History) : Type 0 where
   -- What one look says is whether "the core's display of B holds A".
   pub looks : (a c : ℕ) → 2 ≤ a → Open b c → (displayHolds (w .state) a c ≡ true) ↔ (0 < occurrences a (displayAt (w .state) c))
   pub walked : (a c : ℕ) → Open b a → Open b c → (displayHolds (w .state) a c ≡ true) ↔ Meets (b .parents) a c
-  pub scanned : (t a c : ℕ) → 2 ≤ a → 2 ≤ c → 0 < occurrences a (rowOf b t) → 0 < occurrences c (rowOf b t)
-      → displayHolds (w .state) a c ≡ scan a c (rowOf b t)
+  pub scanned : (t a c : ℕ) → 2 ≤ a → 2 ≤ c → 0 < occurrences a (threadRow b t) → 0 < occurrences c (threadRow b t)
+      → displayHolds (w .state) a c ≡ scan a c (threadRow b t)
   -- 7. "No op 08 in it yields 15."
   pub loads : (l : Line) (before : List Line) → Follows l before (w .trace) → (t p q : ℕ) → l .call ≡ load t p q → l .reply .status ≢ 15
   -- 8. The values, by the lines before. A load gives the word last stored in that slot since the object was made, null if none.

@@ -7,14 +7,14 @@ use lib.Dec.{eqb}
 use lib.ListN.{getD, set, replicate}
 use Rattle.layout.specs.Choice.{pick}
 use Rattle.model.specs.State.{current, innermost, isScope}
-use Rattle.model.specs.Calls.{Call, start, end, make, enter, exit, allocate, store, load, write, read, view, viewed}
+use Rattle.model.specs.Calls.{Call, start, end, make, enter, exit, allocate, store, write, asks}
 use Rattle.model.specs.Run.{Line}
 
 -- an object made: its handle, its slots and its data words
 pub record Object : Type 0 where
   pub handle : ℕ
   pub slots : ℕ
-  pub words : ℕ
+  pub dataWords : ℕ
 
 -- "a row of areas for each started thread, a parent for each open scope, and the objects made": a row has its top first; a parent is 0 for
 -- none; the live objects stand by area, the newest first; gone has the handles of the objects that are gone
@@ -28,8 +28,8 @@ pub record History : Type 0 where
 unfoldable pub blank : History
 blank = record { started = λ t. false; rows = replicate 16 []; parents = λ a. 0; objects = λ a. []; gone = [] }
 
-abbrev pub rowOf : History → ℕ → List ℕ
-rowOf b t = getD (b .rows) t []
+abbrev pub threadRow : History → ℕ → List ℕ
+threadRow b t = getD (b .rows) t []
 
 -- f with v at q
 unfoldable pub putAt {ℓ} : {A : Type ℓ} → (ℕ → A) → ℕ → A → ℕ → A
@@ -63,8 +63,8 @@ historyStart b t on = record { started = putAt (b .started) t on; rows = set (b 
 unfoldable pub historyEnter : History → ℕ → ℕ → History
 historyEnter b t q = record {
   started = b .started;
-  rows = set (b .rows) t (q ∷ rowOf b t);
-  parents = pick (isScopeOnNone q (b .rows)) (putAt (b .parents) q (innermost (rowOf b t))) (b .parents);
+  rows = set (b .rows) t (q ∷ threadRow b t);
+  parents = pick (isScopeOnNone q (b .rows)) (putAt (b .parents) q (innermost (threadRow b t))) (b .parents);
   objects = b .objects;
   gone = b .gone;
 }
@@ -72,8 +72,8 @@ historyEnter b t q = record {
 -- "05 takes the top off. If that leaves a scope on no row, it has no parent and its objects are gone."
 unfoldable pub historyExit : History → ℕ → History
 historyExit b t =
-    let q : ℕ = current (rowOf b t) in
-    let left : List (List ℕ) = set (b .rows) t (below (rowOf b t)) in
+    let q : ℕ = current (threadRow b t) in
+    let left : List (List ℕ) = set (b .rows) t (below (threadRow b t)) in
     record {
       started = b .started;
       rows = left;
@@ -85,7 +85,7 @@ historyExit b t =
 -- "06 makes an object: its handle is the value, it has q slots, its area is the row's top, or the heap if the row is empty."
 unfoldable pub historyAllocate : History → ℕ → Object → History
 historyAllocate b t o =
-    let a : ℕ = current (rowOf b t) in
+    let a : ℕ = current (threadRow b t) in
     record { started = b .started; rows = b .rows; parents = b .parents; objects = putAt (b .objects) a (o ∷ b .objects a); gone = b .gone }
 
 -- an accepted call with its value; "The rest .. change nothing."
@@ -95,19 +95,20 @@ historyStep b (end t) v = historyStart b t false
 historyStep b (make t q r) v = b
 historyStep b (enter t q) v = historyEnter b t q
 historyStep b (exit t) v = historyExit b t
-historyStep b (allocate t q r) v = historyAllocate b t (record { handle = v; slots = q; words = r })
+historyStep b (allocate t q r) v = historyAllocate b t (record { handle = v; slots = q; dataWords = r })
 historyStep b (store t p q r) v = b
-historyStep b (load t p q) v = b
 historyStep b (write t p q r) v = b
-historyStep b (read t p q) v = b
-historyStep b (view t p) v = b
-historyStep b (viewed t p) v = b
+historyStep b (asks x) v = b
 
 -- ".. and any refused call, change nothing."
 unfoldable pub historyLine : History → Line → History
 historyLine b l = pick (eqb (l .reply .status) 0) (historyStep b (l .call) (l .reply .value)) b
 
--- the book after the lines of a list, the newest first
-unfoldable pub historyOf : List Line → History
-historyOf [] = blank
-historyOf (l ∷ ls) = historyLine (historyOf ls) l
+-- the history after the lines of a list, the newest first, where b is what went before
+unfoldable pub historyFrom : History → List Line → History
+historyFrom b [] = b
+historyFrom b (l ∷ ls) = historyLine (historyFrom b ls) l
+
+-- ".. empty at set-up"
+abbrev pub historyOf : List Line → History
+historyOf ls = historyFrom blank ls

@@ -8,7 +8,7 @@ use lib.ListN.{length, getD}
 use Rattle.layout.specs.Choice.{pick}
 use Rattle.layout.specs.Stack.{down}
 use Rattle.model.specs.declared.Area.{Area}
-use Rattle.model.specs.State.{Thread, State, noThread, areaAt, stackOf, current, innermost, isScope, displayAt}
+use Rattle.model.specs.State.{Thread, State, noThread, areaAt, entriesOf, innermost, isScope, displayAt}
 use Rattle.model.specs.Scopes.{lastGeneration}
 use Rattle.model.specs.History.{total}
 
@@ -19,22 +19,33 @@ unfoldable pub scopesOf : List ℕ → List ℕ
 scopesOf [] = []
 scopesOf (x ∷ l) = pick (isScope x) (x ∷ scopesOf l) (scopesOf l)
 
--- scope a stands above the scopes l: its parent is the first of them, and its display is itself and then they
+-- the branch of the scope stack that a row ends in, the innermost scope first: what a scope that is opened on the row has as ancestors. Every
+-- scope of the row is on it.
+abbrev pub branchOf : List ℕ → List ℕ
+branchOf row = scopesOf row
+
+-- the first of a branch, 0 for none
+abbrev pub firstOf : List ℕ → ℕ
+firstOf [] = 0
+firstOf (a ∷ l) = a
+
+-- scope a stands above the branch l: its parent is the first of it, and its display is itself and then the branch
 pub record Link (parent : ℕ → ℕ) (display : ℕ → List ℕ) (a : ℕ) (l : List ℕ) : Type 0 where
   pub scope : 2 ≤ a
   pub area : a < 64
-  pub parent-is : parent a ≡ current l
+  pub parent-is : parent a ≡ firstOf l
   pub display-is : display a ≡ a ∷ l
 
+-- each entry of a row that is a scope stands above the branch of the entries below it
 abbrev pub Nested : (ℕ → ℕ) → (ℕ → List ℕ) → List ℕ → Type 0
 Nested parent display [] = Unit {0}
-Nested parent display (a ∷ l) = Link parent display a l × Nested parent display l
+Nested parent display (x ∷ below) = (2 ≤ x → Link parent display x (branchOf below)) × Nested parent display below
 
 -- over a parent, a display and a count for each area, and the stacks: each count is the number of entries, and each stack is nested
 pub record Nesting (parent : ℕ → ℕ) (display : ℕ → List ℕ) (count : ℕ → ℕ) (stacks : List (List ℕ)) : Type 0 where
   pub size : length stacks ≡ 16
   pub counts : (a : ℕ) → 2 ≤ a → a < 64 → count a ≡ total a stacks
-  pub nested : (t : ℕ) → t < 16 → Nested parent display (scopesOf (getD stacks t []))
+  pub nested : (t : ℕ) → t < 16 → Nested parent display (getD stacks t [])
 
 -- ---- threads
 
@@ -95,7 +106,7 @@ abbrev pub countIn : State → ℕ → ℕ
 countIn s a = areaAt s a .count
 
 abbrev pub stacksIn : State → List (List ℕ)
-stacksIn s = map stackOf (s .threads)
+stacksIn s = map entriesOf (s .threads)
 
 pub record Good (s : State) : Type 0 where
   pub areas : length (s .areas) ≡ 64

@@ -1,4 +1,4 @@
--- The machine of document 01, call by call; every list of calls; the book and the values that it tells; and what is claimed after each.
+-- The machine of document 01, call by call; every list of calls; the history and the values that it tells; and what is claimed after each.
 pub mod State
 pub mod SetUp
 pub mod Checks

@@ -11,27 +11,27 @@ use Rattle.layout.specs.Header.{headerOf}
 use Rattle.bitmap.specs.Bitmap.{withBit, cleared}
 use Rattle.rights.specs.declared.Right.the-variants.{Allocate}
 use Rattle.model.specs.declared.Area.{Area}
-use Rattle.model.specs.State.{State, Memory, areaAt, withArea, stackAt, current, storeOf, withStore, bitIndex}
-use Rattle.model.specs.Checks.{admit, hasRight}
+use Rattle.model.specs.State.{State, Memory, areaAt, withUsed, withArea, stackAt, current, storeOf, withMap, withStore, bitIndex}
+use Rattle.model.specs.Checks.{called, hasRight}
 
 -- the area that a thread allocates in
 abbrev pub currentAt : State → ℕ → ℕ
 currentAt s t = current (stackAt s t)
 
--- refusals 1, 2, 5, 12: "A in 06 (current area)", "12: used + 1 + s + d above the size"
-unfoldable pub allocateStatus : State → Memory → ℕ → ℕ → ℕ → ℕ
-allocateStatus s m t slots words =
-    admit s m t
+-- refusals 2, 5, 12 after 1: "A in 06 (current area)", "12: used + 1 + s + d above the size"
+unfoldable pub allocateRest : State → ℕ → ℕ → ℕ → ℕ
+allocateRest s t slots dataWords =
+    called s t
     (refuse (not (hasRight s t Allocate (currentAt s t))) 5
-    (refuse (ltb (areaAt s (currentAt s t) .size) (suc (areaAt s (currentAt s t) .used + slots + words))) 12 0))
+    (refuse (ltb (areaAt s (currentAt s t) .size) (suc (areaAt s (currentAt s t) .used + slots + dataWords))) 12 0))
 
 -- "Allocation takes the area's next words"
 abbrev pub grown : Area → ℕ → Area
-grown x used = record { start = x .start; size = x .size; used = used; generation = x .generation; count = x .count; parent = x .parent; depth = x .depth }
+grown x used = withUsed x used
 
 -- in area a; "takes 1 + s + d words"
 unfoldable pub allocateState : State → ℕ → ℕ → ℕ → State
-allocateState s a slots words = withArea s a (grown (areaAt s a) (suc (areaAt s a .used + slots + words)))
+allocateState s a slots dataWords = withArea s a (grown (areaAt s a) (suc (areaAt s a .used + slots + dataWords)))
 
 -- n times v from place p on
 unfoldable pub filled : List ℕ → ℕ → ℕ → ℕ → List ℕ
@@ -40,7 +40,7 @@ filled l p (suc n) v = set (filled l p n v) (p + n) v
 
 -- "header .., slots, data", "sets slots and data to 0"
 unfoldable pub objectWords : List ℕ → ℕ → ℕ → ℕ → List ℕ
-objectWords l at slots words = set (filled l (suc at) (slots + words) 0) at (headerOf slots words)
+objectWords l at slots dataWords = set (filled l (suc at) (slots + dataWords) 0) at (headerOf slots dataWords)
 
 -- "sets the map bit of the header and clears those of its other words"
 unfoldable pub objectBits : List ℕ → ℕ → ℕ → List ℕ
@@ -48,9 +48,9 @@ objectBits map at n = withBit (cleared map (suc at) n) at
 
 -- "Allocation takes the area's next words, sets slots and data to 0, sets the map bit of the header and clears those of its other words."
 unfoldable pub allocateMemory : State → Memory → ℕ → ℕ → ℕ → Memory
-allocateMemory s m a slots words =
-    withStore (record { permanent = m .permanent; scratch = m .scratch; map = objectBits (m .map) (bitIndex s a (areaAt s a .used)) (slots + words) })
-    a (objectWords (storeOf m a) (areaAt s a .start + areaAt s a .used) slots words)
+allocateMemory s m a slots dataWords =
+    withStore (withMap m (objectBits (m .map) (bitIndex s a (areaAt s a .used)) (slots + dataWords)))
+    a (objectWords (storeOf m a) (areaAt s a .start + areaAt s a .used) slots dataWords)
 
 -- "value: handle"
 unfoldable pub allocateValue : State → ℕ → ℕ

@@ -9,7 +9,7 @@ use Rattle.layout.specs.Handle.{null, offsetOf, areaOf}
 use Rattle.layout.specs.Header.{slotsOf}
 use Rattle.rights.specs.declared.Right.the-variants.{Refer}
 use Rattle.model.specs.State.{State, Memory, areaAt, storeOf, withStore, displayHolds}
-use Rattle.model.specs.Checks.{hasRight, headerAt, isReference, useStatus}
+use Rattle.model.specs.Checks.{hasRight, headerAt, isReference, useRest}
 
 -- "a target in heap or immortal may be stored anywhere. A target in a scope may be stored only in an object of that scope or of one that has
 -- it among its ancestors." The areas of the object and of the target.
@@ -29,20 +29,20 @@ unfoldable pub storeAfter : State → Memory → ℕ → ℕ → ℕ → Memory
 storeAfter s m p i v = withStore m (areaOf p) (set (storeOf m (areaOf p)) (placeAfter s p i) v)
 
 -- "14: slot .. index not below s"
-unfoldable pub slotStatus : State → Memory → ℕ → ℕ → ℕ → ℕ → ℕ
-slotStatus s m t p q rest = useStatus s m t p (refuse (leb (slotsOf (headerAt s m p)) q) 14 rest)
+unfoldable pub slotRest : State → Memory → ℕ → ℕ → ℕ → ℕ → ℕ
+slotRest s m t p q rest = useRest s m t p (refuse (leb (slotsOf (headerAt s m p)) q) 14 rest)
 
 -- "then R for the target or loaded word, where null always passes", after 15
-unfoldable pub referenceStatus : State → Memory → ℕ → ℕ → ℕ → ℕ
-referenceStatus s m t x rest =
+unfoldable pub referenceRest : State → Memory → ℕ → ℕ → ℕ → ℕ
+referenceRest s m t x rest =
     refuse (not (isReference s m x)) 15
     (refuse (not (eqb x null || hasRight s t Refer (areaOf x))) 5 rest)
 
--- op 07, refusals 1, 2, 13, 5 (U), 14, 15, 5 (R), 16: "assignment rule forbids"; "Null may be stored always."
-unfoldable pub storeStatus : State → Memory → ℕ → ℕ → ℕ → ℕ → ℕ
-storeStatus s m t p q r =
-    slotStatus s m t p q (referenceStatus s m t r (refuse (not (eqb r null || mayRefer s (areaOf p) (areaOf r))) 16 0))
+-- op 07, refusals 13, 5 (U), 14, 15, 5 (R), 16 after 1 and 2: "assignment rule forbids"; "Null may be stored always."
+unfoldable pub storeRest : State → Memory → ℕ → ℕ → ℕ → ℕ → ℕ
+storeRest s m t p q r =
+    slotRest s m t p q (referenceRest s m t r (refuse (not (eqb r null || mayRefer s (areaOf p) (areaOf r))) 16 0))
 
--- op 08, refusals 1, 2, 13, 5 (U), 14, 15, 5 (R)
-unfoldable pub loadStatus : State → Memory → ℕ → ℕ → ℕ → ℕ
-loadStatus s m t p q = slotStatus s m t p q (referenceStatus s m t (wordAfter s m p q) 0)
+-- op 08, refusals 13, 5 (U), 14, 15, 5 (R) after 1 and 2
+unfoldable pub loadRest : State → Memory → ℕ → ℕ → ℕ → ℕ
+loadRest s m t p q = slotRest s m t p q (referenceRest s m t (wordAfter s m p q) 0)

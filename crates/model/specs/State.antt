@@ -51,6 +51,33 @@ rowAt s a = getD (s .rows) a []
 abbrev pub threadAt : State → ℕ → Thread
 threadAt s t = getD (s .threads) t noThread
 
+-- ---- an area with a number replaced
+
+abbrev pub withWords : Area → ℕ → ℕ → Area
+withWords x start size = record { start = start; size = size; used = x .used; generation = x .generation; count = x .count; parent = x .parent; depth = x .depth }
+
+abbrev pub withUsed : Area → ℕ → Area
+withUsed x n = record { start = x .start; size = x .size; used = n; generation = x .generation; count = x .count; parent = x .parent; depth = x .depth }
+
+abbrev pub withGeneration : Area → ℕ → Area
+withGeneration x n = record { start = x .start; size = x .size; used = x .used; generation = n; count = x .count; parent = x .parent; depth = x .depth }
+
+abbrev pub withCount : Area → ℕ → Area
+withCount x n = record { start = x .start; size = x .size; used = x .used; generation = x .generation; count = n; parent = x .parent; depth = x .depth }
+
+abbrev pub withParent : Area → ℕ → ℕ → Area
+withParent x parent depth = record { start = x .start; size = x .size; used = x .used; generation = x .generation; count = x .count; parent = parent; depth = depth }
+
+-- ---- a thread with a part replaced
+
+abbrev pub withKind : Thread → ℕ → Thread
+withKind h k = record { kind = k; len = h .len; entries = h .entries; inner = h .inner }
+
+abbrev pub withStack : Thread → ℕ → List ℕ → List ℕ → Thread
+withStack h len entries inner = record { kind = h .kind; len = len; entries = entries; inner = inner }
+
+-- ---- a state with a part replaced
+
 unfoldable pub withArea : State → ℕ → Area → State
 withArea s a x = record { areas = set (s .areas) a x; rows = s .rows; threads = s .threads; lengths = s .lengths; taken = s .taken }
 
@@ -66,11 +93,11 @@ withTaken s n = record { areas = s .areas; rows = s .rows; threads = s .threads;
 -- ---- stacks
 
 -- a thread's stack, its top first
-unfoldable pub stackOf : Thread → List ℕ
-stackOf h = down (h .entries) (h .len)
+unfoldable pub entriesOf : Thread → List ℕ
+entriesOf h = down (h .entries) (h .len)
 
 abbrev pub stackAt : State → ℕ → List ℕ
-stackAt s t = stackOf (threadAt s t)
+stackAt s t = entriesOf (threadAt s t)
 
 -- "The current area is the top entry, or the heap where the stack is empty."
 abbrev pub current : List ℕ → ℕ
@@ -90,8 +117,11 @@ abbrev pub isScope : ℕ → Bool
 isScope a = leb 2 a
 
 -- heap and immortal are always there; a scope that is made has a size above 0, by refusal 8
+abbrev pub madeAs : Area → ℕ → Bool
+madeAs x a = ltb a 2 || ltb 0 (x .size)
+
 unfoldable pub isMade : State → ℕ → Bool
-isMade s a = ltb a 2 || ltb 0 (areaAt s a .size)
+isMade s a = madeAs (areaAt s a) a
 
 -- "A scope is open while its count of entries is above 0."
 abbrev pub isOpen : State → ℕ → Bool
@@ -111,6 +141,15 @@ displayHolds s a b = leb (areaAt s a .depth) (areaAt s b .depth) && rowHolds (ro
 -- the store that has an area's words
 abbrev pub storeOf : Memory → ℕ → List ℕ
 storeOf m a = pick (isScope a) (m .scratch) (m .permanent)
+
+-- its length, by set-up
+abbrev pub storeLength : State → ℕ → ℕ
+storeLength s a = pick (isScope a) (s .lengths .scratch) (s .lengths .permanent)
+
+-- ---- a memory with a part replaced
+
+abbrev pub withMap : Memory → List ℕ → Memory
+withMap m l = record { permanent = m .permanent; scratch = m .scratch; map = l }
 
 unfoldable pub withStore : Memory → ℕ → List ℕ → Memory
 withStore m a l = record { permanent = pick (isScope a) (m .permanent) l; scratch = pick (isScope a) l (m .scratch); map = m .map }

@@ -7,9 +7,9 @@ use lib.Dec.{eqb}
 use Rattle.layout.specs.Choice.{pick}
 use Rattle.layout.specs.Handle.{null}
 use Rattle.model.specs.State.{current, isScope}
-use Rattle.model.specs.Calls.{Call, start, end, make, enter, exit, allocate, store, load, write, read, view, viewed}
+use Rattle.model.specs.Calls.{Call, start, end, make, enter, exit, allocate, store, write, asks}
 use Rattle.model.specs.Run.{Line}
-use Rattle.model.specs.History.{History, rowOf, total, isScopeOnNone, historyExit, historyOf}
+use Rattle.model.specs.History.{History, threadRow, total, isScopeOnNone, historyExit, historyOf}
 
 -- ---- op 08: "value: stored word"
 
@@ -23,11 +23,8 @@ storedStep o i w (enter t q) v = w
 storedStep o i w (exit t) v = w
 storedStep o i w (allocate t q r) v = pick (eqb v o) null w
 storedStep o i w (store t p q r) v = pick (eqb p o && eqb q i) r w
-storedStep o i w (load t p q) v = w
 storedStep o i w (write t p q r) v = w
-storedStep o i w (read t p q) v = w
-storedStep o i w (view t p) v = w
-storedStep o i w (viewed t p) v = w
+storedStep o i w (asks x) v = w
 
 -- a refused call changes nothing
 unfoldable pub storedLine : ℕ → ℕ → ℕ → Line → ℕ
@@ -40,7 +37,7 @@ lastStored o i (l ∷ ls) = storedLine o i (lastStored o i ls) l
 
 -- ---- op 04: "value: turn"
 
--- the last opening of a gave g, then a call is accepted with value v, after the book b: an entry of "a scope on no row" opens it
+-- the last opening of a gave g, then a call is accepted with value v, after the history b: an entry of "a scope on no row" opens it
 abbrev pub openingStep : History → ℕ → ℕ → Call → ℕ → ℕ
 openingStep b a g (start t p) v = g
 openingStep b a g (end t) v = g
@@ -49,11 +46,8 @@ openingStep b a g (enter t q) v = pick (isScopeOnNone q (b .rows) && eqb q a) v 
 openingStep b a g (exit t) v = g
 openingStep b a g (allocate t q r) v = g
 openingStep b a g (store t p q r) v = g
-openingStep b a g (load t p q) v = g
 openingStep b a g (write t p q r) v = g
-openingStep b a g (read t p q) v = g
-openingStep b a g (view t p) v = g
-openingStep b a g (viewed t p) v = g
+openingStep b a g (asks x) v = g
 
 -- a refused call opens nothing
 unfoldable pub openingLine : History → ℕ → ℕ → Line → ℕ
@@ -73,4 +67,4 @@ entryGeneration q ls = pick (isScope q) (pick (eqb (total q (historyOf ls .rows)
 
 -- how many entries of the area that thread t leaves, if it is a scope, are left on all rows
 unfoldable pub entriesLeft : History → ℕ → ℕ
-entriesLeft b t = pick (isScope (current (rowOf b t))) (total (current (rowOf b t)) (historyExit b t .rows)) 0
+entriesLeft b t = pick (isScope (current (threadRow b t))) (total (current (threadRow b t)) (historyExit b t .rows)) 0

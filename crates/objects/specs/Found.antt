@@ -10,17 +10,17 @@ use Rattle.layout.specs.Handle.{offsetOf, areaOf}
 use Rattle.layout.specs.Header.{slotsOf, dataOf}
 use Rattle.model.specs.State.{State, Memory, areaAt}
 use Rattle.model.specs.Checks.{headerAt, live, isObject, isReference}
-use Rattle.objects.specs.declared.find.Object.{Object}
+use Rattle.objects.specs.declared.find.Resolved.{Resolved}
 use Rattle.objects.specs.declared.find.Found.{Found}
 use Rattle.objects.specs.declared.find.Found.the-variants.{At, Nothing}
 
 -- the object that a live handle leads to: its header lies at the handle's offset in the handle's area, and says its sizes
-unfoldable pub objectOf : State → Memory → ℕ → Object
+unfoldable pub objectOf : State → Memory → ℕ → Resolved
 objectOf s m h = record {
   area = areaOf h;
   at = areaAt s (areaOf h) .start + offsetOf h;
   slots = slotsOf (headerAt s m h);
-  words = dataOf (headerAt s m h);
+  data_words = dataOf (headerAt s m h);
 }
 
 -- what a look-up of a handle finds: the object, where the handle is live
@@ -34,7 +34,7 @@ refusalOf n (At o) = 0
 refusalOf n Nothing = n
 
 -- what the number of a look-up's answer says: of an object's handle, and of a target or a loaded word
-pub record Numbered (s : State) (m : Memory) (h : ℕ) (r : Found) : Type 0 where
+pub record RefusedAs (s : State) (m : Memory) (h : ℕ) (r : Found) : Type 0 where
   pub as-object : refusalOf 13 r ≡ refuse (not (isObject s m h)) 13 0
   pub as-reference : h ≢ 0 → refusalOf 15 r ≡ refuse (not (isReference s m h)) 15 0
 
@@ -42,5 +42,5 @@ pub record Numbered (s : State) (m : Memory) (h : ℕ) (r : Found) : Type 0 wher
 unfoldable pub endsOf : ℕ → ℕ → ℕ → ℕ → ℕ → Found
 endsOf header area at offset used =
     pick (leb (suc (offset + slotsOf header + dataOf header)) used)
-    (At (record { area = area; at = at; slots = slotsOf header; words = dataOf header }))
+    (At (record { area = area; at = at; slots = slotsOf header; data_words = dataOf header }))
     Nothing

@@ -3,4 +3,8 @@ pub mod Found
 pub mod Places
 pub mod Steps
 pub mod Stores
-pub mod Rights
+pub mod Checked
+pub mod Resolving
+pub mod Chains
+pub mod Statuses
+pub mod Effects

@@ -16,10 +16,10 @@ use Rattle.model.specs.State.{State, Memory, areaAt, isScope, isOpen, storeOf, 
 use Rattle.model.specs.Checks.{fits, headerAt, live, isObject, isReference}
 use Rattle.model.specs.Invariant.{Good}
 use Rattle.model.proofs.PlacedWords.{low-inside, SuppliedLengths, supplied-lengths}
-use Rattle.objects.specs.declared.find.Object.{Object}
+use Rattle.objects.specs.declared.find.Resolved.{Resolved}
 use Rattle.objects.specs.declared.find.Found.{Found}
 use Rattle.objects.specs.declared.find.Found.the-variants.{At, Nothing}
-use Rattle.objects.specs.Found.{objectOf, foundOf, Numbered}
+use Rattle.objects.specs.Found.{objectOf, foundOf, RefusedAs}
 
 -- ---- the words of an area
 
@@ -112,7 +112,7 @@ module _ (s : State) (m : Memory) (h : ℕ) where
   found-nothing n = cases (live s m h) (λ e. absurd (n (live-ok e))) (λ e. sym (pick-false (live s m h) (At (objectOf s m h)) Nothing e))
 
   -- and what each says
-  pub at-live : (o : Object) → At o ≡ foundOf s m h → (live s m h ≡ true) × (o ≡ objectOf s m h)
+  pub at-live : (o : Resolved) → At o ≡ foundOf s m h → (live s m h ≡ true) × (o ≡ objectOf s m h)
   unfolding foundOf
   at-live o e =
       cases (live s m h)
@@ -144,9 +144,9 @@ object-live s m p g =
     (λ e. rw e refl)
 
 -- the numbers of what a lookup finds are those of refusals 13 and 15
-pub numbered : (s : State) (m : Memory) (h : ℕ) → Good s → {r : Found} → r ≡ foundOf s m h → (r ≡ foundOf s m h) × Numbered s m h r
+pub refused-as : (s : State) (m : Memory) (h : ℕ) → Good s → {r : Found} → r ≡ foundOf s m h → (r ≡ foundOf s m h) × RefusedAs s m h r
 unfolding foundOf refuse isReference
-numbered s m h g e = (
+refused-as s m h g e = (
   e,
   record {
     as-object = rw (e, object-live s m h g) (cases (live s m h) (λ k. rw k) (λ k. rw k));
@@ -157,12 +157,12 @@ numbered s m h g e = (
 -- ---- the object that a handle leads to
 
 -- where an object lies: the words of its header, slots and data are words of its store
-pub record Lies (m : Memory) (o : Object) : Type 0 where
+pub record Lies (m : Memory) (o : Resolved) : Type 0 where
   pub area : o .area < 64
   pub slots : o .slots < 16384
-  pub words : o .words < 16384
-  pub low : suc (o .at + o .slots + o .words) ≤ 16384
-  pub inside : suc (o .at + o .slots + o .words) ≤ length (storeOf m (o .area))
+  pub words : o .data_words < 16384
+  pub low : suc (o .at + o .slots + o .data_words) ≤ 16384
+  pub inside : suc (o .at + o .slots + o .data_words) ≤ length (storeOf m (o .area))
 
 pub lies : (s : State) (m : Memory) (h : ℕ) → Good s → fits s m ≡ true → live s m h ≡ true → Lies m (objectOf s m h)
 unfolding objectOf

@@ -27,7 +27,7 @@ use Rattle.objects.specs.Places.{Within, within, found-at, found-nothing
 -- ---- the last step
 
 module _ (n a at o u : ℕ) where
-  pub ends-at : o + 1 + slotsOf n + dataOf n ≤ u → At (record { area = a; at = at; slots = slotsOf n; words = dataOf n }) ≡ endsOf n a at o u
+  pub ends-at : o + 1 + slotsOf n + dataOf n ≤ u → At (record { area = a; at = at; slots = slotsOf n; data_words = dataOf n }) ≡ endsOf n a at o u
   unfolding endsOf
   ends-at k = sym (pick-true (leb (suc (o + slotsOf n + dataOf n)) u) _ _ (le-leb (suc (o + slotsOf n + dataOf n)) u (omega arith)))
 

@@ -12,12 +12,22 @@ use Rattle.layout.specs.Header.{headerOf}
 use Rattle.bitmap.specs.Bitmap.{withBit, cleared}
 use Rattle.model.specs.State.{isScope, withStore}
 use Rattle.model.specs.Objects.{filled, objectWords, objectBits}
-use Rattle.tables.specs.Contract.{memoryOf}
+use denote.Ref.{now}
+use Rattle.tables.specs.Contract.{Cell, Borrowed, memoryOf}
 
 -- the stores p and s, where that of area a has become l
 pub record Stored (p′ s′ p s : List ℕ) (a : ℕ) (l : List ℕ) : Type 0 where
   pub permanent-is : p′ ≡ pick (isScope a) p l
   pub scratch-is : s′ ≡ pick (isScope a) l s
+
+-- the store that has an area's words
+abbrev pub storeIn : Cell → Cell → ℕ → List ℕ
+storeIn permanent scratch a = pick (isScope a) (now scratch) (now permanent)
+
+-- of the two stores that a function is lent, that of area a has changed by f
+abbrev pub Stores : Borrowed → Borrowed → ℕ → (List ℕ → List ℕ) → Type 0
+Stores permanent scratch a f =
+    Stored (now (permanent .exit)) (now (scratch .exit)) (now (permanent .entry)) (now (scratch .entry)) a (f (storeIn (permanent .entry) (scratch .entry) a))
 
 pub stored-permanent : (p s : List ℕ) (a : ℕ) (f : List ℕ → List ℕ) → a < 2 → Stored (f p) s p s a (f (pick (isScope a) s p))
 stored-permanent p s a f h = record { permanent-is = rw (lt-leb 2 a h); scratch-is = rw (lt-leb 2 a h) }

@@ -1,51 +1,26 @@
 // The object that a handle leads to, if it is live.
+use crate::store;
 use layout::handle;
 use tables::Bytes;
 use tables::Words;
 ghost use mathlib.Core.Path.{_≡_};
-ghost use mathlib.Core.Bool.{true};
-ghost use Prim.Native.Nat.{_+_, _<_};
-ghost use lib.ListN.{length, getD};
-ghost use Rattle.layout.specs.Choice.{pick};
-ghost use Rattle.model.specs.State.{isScope};
-ghost use Rattle.model.specs.Checks.{fits};
-ghost use Rattle.tables.specs.Decode.{stateOf};
-ghost use Rattle.tables.specs.Contract.{memoryOf, Ready};
-ghost use Rattle.objects.specs.Found.{foundOf, Numbered, endsOf};
+ghost use Prim.Native.Nat.{_<_};
+ghost use Rattle.tables.specs.Contract.{before, supplied};
+ghost use Rattle.objects.specs.Found.{foundOf, RefusedAs, endsOf};
+ghost use Rattle.objects.specs.Resolving.{Fitting};
 
-// An object: its area, the place of its header in its store, its slots and its data words.
-pub struct Object {
+// An object that a handle resolves to: its area, the place of its header in its store, its slots and how
+// many data words it has.
+pub struct Resolved {
     pub area: u64,
     pub at: usize,
     pub slots: u64,
-    pub words: u64,
+    pub data_words: u64,
 }
 
 pub enum Found {
-    At(Object),
+    At(Resolved),
     Nothing,
-}
-
-// A word of the store that has an area's words.
-pub fn word_at(permanent: &[u64], scratch: &[u64], area: u64, at: usize) -> u64
-    requires { ⌜ at < length (pick (isScope area) (now scratch) (now permanent)) ⌝ }
-    ensures { λ r. ⌜ r ≡ getD (pick (isScope area) (now (scratch .entry)) (now (permanent .entry))) at 0 ⌝ }
-{
-    if 2 <= area {
-        return scratch[at];
-    }
-    permanent[at]
-}
-
-// Its place in the start map: permanent words count first, then scratch words.
-pub fn bit_index(permanent: usize, area: u64, at: usize) -> usize
-    requires { ⌜ permanent + at < 65536 ⌝ }
-    ensures { λ r. ⌜ r ≡ pick (isScope area) permanent 0 + at ⌝ }
-{
-    if 2 <= area {
-        return permanent + at;
-    }
-    at
 }
 
 // The object that a header at an offset heads, where it ends within the used words.
@@ -54,15 +29,15 @@ fn whole(header: u64, area: u64, at: usize, offset: u64, used: u64) -> Found
     ensures { λ r. ⌜ r ≡ endsOf header area at offset used ⌝ }
 {
     let slots = handle::slots(header);
-    let words = handle::data_words(header);
-    if used < offset + 1 + slots + words {
+    let data_words = handle::data_words(header);
+    if used < offset + 1 + slots + data_words {
         return Found::Nothing;
     }
-    Found::At(Object {
+    Found::At(Resolved {
         area,
         at,
         slots,
-        words,
+        data_words,
     })
 }
 
@@ -75,9 +50,9 @@ pub fn lookup(
     map: &[u64],
     handle: u64,
 ) -> Found
-    requires { ⌜ Ready (now words) (now bytes) × (fits (stateOf (now words) (now bytes)) (memoryOf (now permanent) (now scratch) (now map)) ≡ true) ⌝ }
-    ensures { λ r. ⌜ r ≡ foundOf (stateOf (now (words .entry)) (now (bytes .entry))) (memoryOf (now (permanent .entry)) (now (scratch .entry)) (now (map .entry))) handle ⌝ }
-    ensures { λ r. ⌜ Numbered (stateOf (now (words .entry)) (now (bytes .entry))) (memoryOf (now (permanent .entry)) (now (scratch .entry)) (now (map .entry))) handle r ⌝ }
+    requires { ⌜ Fitting words bytes permanent scratch map ⌝ }
+    ensures found { λ r. ⌜ r ≡ foundOf (before words bytes) (supplied permanent scratch map) handle ⌝ }
+    ensures number { λ r. ⌜ RefusedAs (before words bytes) (supplied permanent scratch map) handle r ⌝ }
 {
     let area = handle::area(handle);
     let offset = handle::offset(handle);
@@ -89,9 +64,9 @@ pub fn lookup(
         return Found::Nothing;
     }
     let at = (x.start + offset) as usize;
-    if bitmap::bit(map, bit_index(permanent.len(), area, at)) == 0 {
+    if bitmap::bit(map, store::bit_index(permanent.len(), area, at)) == 0 {
         return Found::Nothing;
     }
-    let header = word_at(permanent, scratch, area, at);
+    let header = store::word_at(permanent, scratch, area, at);
     whole(header, area, at, offset, x.used)
 }

@@ -14,62 +14,62 @@ use Rattle.display.specs.Display.{rowHolds}
 use Rattle.rights.specs.declared.Right.the-variants.{Refer}
 use Rattle.model.specs.declared.Area.{Area}
 use Rattle.model.specs.State.{State, Memory, areaAt, displayHolds}
-use Rattle.model.specs.Checks.{hasRight, headerAt, isReference, useStatus}
-use Rattle.model.specs.References.{mayRefer, wordAfter, slotStatus, referenceStatus, storeStatus, loadStatus}
+use Rattle.model.specs.Checks.{hasRight, headerAt, isReference, useRest}
+use Rattle.model.specs.References.{mayRefer, wordAfter, slotRest, referenceRest, storeRest, loadRest}
 use Rattle.tables.specs.Decode as decode
 use Rattle.tables.specs.Laws.{area-read, row-read}
-use Rattle.objects.specs.declared.find.Object.{Object}
+use Rattle.objects.specs.declared.find.Resolved.{Resolved}
 use Rattle.objects.specs.declared.find.Found.the-variants.{At, Nothing}
 use Rattle.objects.specs.Found.{objectOf, foundOf}
 use Rattle.objects.specs.Places.{at-live, nothing-live}
-use Rattle.access.specs.Chains.{Chain, chain-none, chain-more}
-use Rattle.access.specs.Statuses.{slots-is, found-area, use-chain}
+use Rattle.objects.specs.Chains.{Chain, chain-none, chain-more}
+use Rattle.objects.specs.Statuses.{slots-is, found-area, use-chain}
 
 -- ---- refusal 14: a slot; n is what check_object answers
 
 module _ (s : State) (m : Memory) (t p q : ℕ) where
-  pub slot-chain : Chain (slotStatus s m t p q)
-  unfolding slotStatus
-  slot-chain = chain-more (useStatus s m t p) (leb (slotsOf (headerAt s m p)) q) 13 (use-chain s m t p)
+  pub slot-chain : Chain (slotRest s m t p q)
+  unfolding slotRest
+  slot-chain = chain-more (useRest s m t p) (leb (slotsOf (headerAt s m p)) q) 13 (use-chain s m t p)
 
-  pub slot-not-used : {n : ℕ} → n ≡ useStatus s m t p 0 → n ≢ 0 → n ≡ slotStatus s m t p q 0
-  unfolding slotStatus
+  pub slot-not-used : {n : ℕ} → n ≡ useRest s m t p 0 → n ≢ 0 → n ≡ slotRest s m t p q 0
+  unfolding slotRest
   slot-not-used e h = e ∙ sym (use-chain s m t p .stops (λ z. h (e ∙ z)) _)
 
-  module _ (z : useStatus s m t p 0 ≡ 0) (o : Object) (e : o ≡ objectOf s m p) where
-    pub slot-past : o .slots ≤ q → 14 ≡ slotStatus s m t p q 0
-    unfolding slotStatus
+  module _ (z : useRest s m t p 0 ≡ 0) (o : Resolved) (e : o ≡ objectOf s m p) where
+    pub slot-past : o .slots ≤ q → 14 ≡ slotRest s m t p q 0
+    unfolding slotRest
     slot-past h = sym (use-chain s m t p .passes z _ ∙ rw (← slots-is s m p o e) (hit (leb (o .slots) q) 14 0 (le-leb (o .slots) q h)))
 
-    pub slot-in : q < o .slots → 0 ≡ slotStatus s m t p q 0
-    unfolding slotStatus
+    pub slot-in : q < o .slots → 0 ≡ slotRest s m t p q 0
+    unfolding slotRest
     slot-in h = sym (use-chain s m t p .passes z _ ∙ rw (← slots-is s m p o e) (skip (leb (o .slots) q) 14 0 (lt-leb (o .slots) q h)))
 
 -- ---- refusals 15 and 5: a target or a loaded word
 
 module _ (s : State) (m : Memory) (t x : ℕ) where
-  pub reference-chain : Chain (referenceStatus s m t x)
-  unfolding referenceStatus
+  pub reference-chain : Chain (referenceRest s m t x)
+  unfolding referenceRest
   reference-chain =
       chain-more (λ (n : ℕ). refuse (not (isReference s m x)) 15 n) (not (eqb x null || hasRight s t Refer (areaOf x))) 4
       (chain-more (λ (n : ℕ). n) (not (isReference s m x)) 14 chain-none)
 
-  pub reference-null : x ≡ 0 → 0 ≡ referenceStatus s m t x 0
-  unfolding referenceStatus isReference refuse
+  pub reference-null : x ≡ 0 → 0 ≡ referenceRest s m t x 0
+  unfolding referenceRest isReference refuse
   reference-null e = rw (eq-eqb x 0 e)
 
   module _ (n : x ≢ 0) where
-    pub reference-nothing : Nothing ≡ foundOf s m x → 15 ≡ referenceStatus s m t x 0
-    unfolding referenceStatus isReference refuse
+    pub reference-nothing : Nothing ≡ foundOf s m x → 15 ≡ referenceRest s m t x 0
+    unfolding referenceRest isReference refuse
     reference-nothing e = rw (ne-eqb x 0 n, nothing-live s m x e)
 
-    module _ (o : Object) (e : At o ≡ foundOf s m x) where
-      pub reference-no-right : hasRight s t Refer (o .area) ≡ false → 5 ≡ referenceStatus s m t x 0
-      unfolding referenceStatus isReference refuse
+    module _ (o : Resolved) (e : At o ≡ foundOf s m x) where
+      pub reference-no-right : hasRight s t Refer (o .area) ≡ false → 5 ≡ referenceRest s m t x 0
+      unfolding referenceRest isReference refuse
       reference-no-right r = rw (ne-eqb x 0 n, at-live s m x o e .0, ← found-area s m x o e, r)
 
-      pub reference-right : hasRight s t Refer (o .area) ≡ true → 0 ≡ referenceStatus s m t x 0
-      unfolding referenceStatus isReference refuse
+      pub reference-right : hasRight s t Refer (o .area) ≡ true → 0 ≡ referenceRest s m t x 0
+      unfolding referenceRest isReference refuse
       reference-right r = rw (ne-eqb x 0 n, at-live s m x o e .0, ← found-area s m x o e, r)
 
 -- ---- refusal 16: the assignment rule, where x and y are the records of the areas of the target and of the object
@@ -103,35 +103,35 @@ null-may s object r e = rw e
 
 module _ (s : State) (m : Memory) (t p q : ℕ) where
   module _ (r : ℕ) where
-    pub store-no-slot : {n : ℕ} → n ≡ slotStatus s m t p q 0 → n ≢ 0 → n ≡ storeStatus s m t p q r
-    unfolding storeStatus
+    pub store-no-slot : {n : ℕ} → n ≡ slotRest s m t p q 0 → n ≢ 0 → n ≡ storeRest s m t p q r
+    unfolding storeRest
     store-no-slot e h = e ∙ sym (slot-chain s m t p q .stops (λ z. h (e ∙ z)) _)
 
-    module _ (z : slotStatus s m t p q 0 ≡ 0) where
-      pub store-no-reference : {n : ℕ} → n ≡ referenceStatus s m t r 0 → n ≢ 0 → n ≡ storeStatus s m t p q r
-      unfolding storeStatus
+    module _ (z : slotRest s m t p q 0 ≡ 0) where
+      pub store-no-reference : {n : ℕ} → n ≡ referenceRest s m t r 0 → n ≢ 0 → n ≡ storeRest s m t p q r
+      unfolding storeRest
       store-no-reference e h = e ∙ sym (slot-chain s m t p q .passes z _ ∙ reference-chain s m t r .stops (λ y. h (e ∙ y)) _)
 
-      module _ (y : referenceStatus s m t r 0 ≡ 0) where
-        last : (rest : ℕ) → slotStatus s m t p q (referenceStatus s m t r rest) ≡ rest
+      module _ (y : referenceRest s m t r 0 ≡ 0) where
+        last : (rest : ℕ) → slotRest s m t p q (referenceRest s m t r rest) ≡ rest
         last rest = slot-chain s m t p q .passes z _ ∙ reference-chain s m t r .passes y rest
 
-        pub store-forbidden : mayRefer s (areaOf p) (areaOf r) ≡ false → 16 ≡ storeStatus s m t p q r
-        unfolding storeStatus
+        pub store-forbidden : mayRefer s (areaOf p) (areaOf r) ≡ false → 16 ≡ storeRest s m t p q r
+        unfolding storeRest
         store-forbidden e = sym (last _ ∙ hit (not (eqb r null || mayRefer s (areaOf p) (areaOf r))) 16 0
             (cases (eqb r null)
             (λ k. absurd (true≢false (null-may s (areaOf p) r (eqb-true r null k) ∙ e)))
             (λ k. rw (k, e))))
 
-        pub store-allowed : mayRefer s (areaOf p) (areaOf r) ≡ true → 0 ≡ storeStatus s m t p q r
-        unfolding storeStatus
+        pub store-allowed : mayRefer s (areaOf p) (areaOf r) ≡ true → 0 ≡ storeRest s m t p q r
+        unfolding storeRest
         store-allowed e = sym (last _ ∙ skip (not (eqb r null || mayRefer s (areaOf p) (areaOf r))) 16 0
             (cases (eqb r null) (λ k. rw k) (λ k. rw (k, e))))
 
-  pub load-no-slot : {n : ℕ} → n ≡ slotStatus s m t p q 0 → n ≢ 0 → n ≡ loadStatus s m t p q
-  unfolding loadStatus
+  pub load-no-slot : {n : ℕ} → n ≡ slotRest s m t p q 0 → n ≢ 0 → n ≡ loadRest s m t p q
+  unfolding loadRest
   load-no-slot e h = e ∙ sym (slot-chain s m t p q .stops (λ z. h (e ∙ z)) _)
 
-  pub load-slot : slotStatus s m t p q 0 ≡ 0 → {n x : ℕ} → x ≡ wordAfter s m p q → n ≡ referenceStatus s m t x 0 → n ≡ loadStatus s m t p q
-  unfolding loadStatus
-  load-slot z f e = e ∙ ap (λ (x : ℕ). referenceStatus s m t x 0) f ∙ sym (slot-chain s m t p q .passes z _)
+  pub load-slot : slotRest s m t p q 0 ≡ 0 → {n x : ℕ} → x ≡ wordAfter s m p q → n ≡ referenceRest s m t x 0 → n ≡ loadRest s m t p q
+  unfolding loadRest
+  load-slot z f e = e ∙ ap (λ (x : ℕ). referenceRest s m t x 0) f ∙ sym (slot-chain s m t p q .passes z _)

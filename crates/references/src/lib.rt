@@ -1,28 +1,24 @@
 // Ops 07 and 08: a reference is stored in a slot, or loaded from one.
-use access::Spot;
 use display::Depth;
 use layout::handle;
 use layout::stack::Answer;
+use objects::Checked;
 use objects::Found;
 use rights::Right;
 use tables::Bytes;
 use tables::Words;
 ghost use mathlib.Core.Path.{_≡_};
-ghost use mathlib.Core.Bool.{true};
 ghost use Prim.Native.Nat.{_<_};
-ghost use Rattle.model.specs.Checks.{fits, admit};
-ghost use Rattle.model.specs.References.{mayRefer, slotStatus, referenceStatus, storeStatus};
+ghost use Rattle.model.specs.References.{mayRefer, slotRest, referenceRest, storeRest};
 ghost use Rattle.model.specs.Calls as calls;
-ghost use Rattle.tables.specs.Decode.{stateOf};
-ghost use Rattle.tables.specs.Contract.{memoryOf, Ready, Told, Written};
-ghost use Rattle.objects.specs.Found.{objectOf};
-ghost use Rattle.access.specs.Spots.{spotOf};
+ghost use Rattle.tables.specs.Contract.{before, supplied, Usable, Answers};
+ghost use Rattle.objects.specs.Resolving.{Admissible, Checks};
 
 // The assignment rule, for the areas of an object and of a target: one look into the display of the
 // object's area (source 004, Algorithm 9).
 fn may_refer(words: &Words, bytes: &Bytes, object: u64, target: u64) -> bool
-    requires { ⌜ Ready (now words) (now bytes) × (object < 64) × (target < 64) ⌝ }
-    ensures { λ r. ⌜ r ≡ mayRefer (stateOf (now (words .entry)) (now (bytes .entry))) object target ⌝ }
+    requires { ⌜ Usable words bytes × (object < 64) × (target < 64) ⌝ }
+    ensures { λ r. ⌜ r ≡ mayRefer (before words bytes) object target ⌝ }
 {
     if target < 2 {
         return true;
@@ -45,17 +41,17 @@ fn check_slot(
     t: u64,
     p: u64,
     q: u64,
-) -> Spot
-    requires { ⌜ Ready (now words) (now bytes) × (admit (stateOf (now words) (now bytes)) (memoryOf (now permanent) (now scratch) (now map)) t 0 ≡ 0) ⌝ }
-    ensures { λ r. ⌜ r ≡ spotOf (objectOf (stateOf (now (words .entry)) (now (bytes .entry))) (memoryOf (now (permanent .entry)) (now (scratch .entry)) (now (map .entry))) p) (slotStatus (stateOf (now (words .entry)) (now (bytes .entry))) (memoryOf (now (permanent .entry)) (now (scratch .entry)) (now (map .entry))) t p q 0) ⌝ }
+) -> Checked
+    requires { ⌜ Admissible words bytes permanent scratch map t ⌝ }
+    ensures { λ r. ⌜ Checks r words bytes permanent scratch map p (λ s m. slotRest s m t p q 0) ⌝ }
 {
-    match access::check_object(words, bytes, permanent, scratch, map, t, p) {
-        Spot::Refused(n) => Spot::Refused(n),
-        Spot::In(o) => {
+    match objects::check_object(words, bytes, permanent, scratch, map, t, p) {
+        Checked::Refused(n) => Checked::Refused(n),
+        Checked::Object(o) => {
             if o.slots <= q {
-                return Spot::Refused(14);
+                return Checked::Refused(14);
             }
-            Spot::In(o)
+            Checked::Object(o)
         }
     }
 }
@@ -70,8 +66,8 @@ fn check_reference(
     t: u64,
     x: u64,
 ) -> u64
-    requires { ⌜ Ready (now words) (now bytes) × (t < 16) × (fits (stateOf (now words) (now bytes)) (memoryOf (now permanent) (now scratch) (now map)) ≡ true) ⌝ }
-    ensures { λ r. ⌜ r ≡ referenceStatus (stateOf (now (words .entry)) (now (bytes .entry))) (memoryOf (now (permanent .entry)) (now (scratch .entry)) (now (map .entry))) t x 0 ⌝ }
+    requires { ⌜ Admissible words bytes permanent scratch map t ⌝ }
+    ensures { λ r. ⌜ r ≡ referenceRest (before words bytes) (supplied permanent scratch map) t x 0 ⌝ }
 {
     if x == 0 {
         return 0;
@@ -79,8 +75,7 @@ fn check_reference(
     let Found::At(o) = objects::lookup(words, bytes, permanent, scratch, map, x) else {
         return 15;
     };
-    let kind = tables::kind_at(words, t as usize);
-    if !rights::allowed_in(kind, o.area, Right::Refer) {
+    if !threads::has_right(words, bytes, t as usize, Right::Refer, o.area) {
         return 5;
     }
     0
@@ -99,22 +94,22 @@ fn check_store(
     p: u64,
     q: u64,
     target: u64,
-) -> Spot
-    requires { ⌜ Ready (now words) (now bytes) × (admit (stateOf (now words) (now bytes)) (memoryOf (now permanent) (now scratch) (now map)) t 0 ≡ 0) ⌝ }
-    ensures { λ r. ⌜ r ≡ spotOf (objectOf (stateOf (now (words .entry)) (now (bytes .entry))) (memoryOf (now (permanent .entry)) (now (scratch .entry)) (now (map .entry))) p) (storeStatus (stateOf (now (words .entry)) (now (bytes .entry))) (memoryOf (now (permanent .entry)) (now (scratch .entry)) (now (map .entry))) t p q target) ⌝ }
+) -> Checked
+    requires { ⌜ Admissible words bytes permanent scratch map t ⌝ }
+    ensures { λ r. ⌜ Checks r words bytes permanent scratch map p (λ s m. storeRest s m t p q target) ⌝ }
 {
     match check_slot(words, bytes, permanent, scratch, map, t, p, q) {
-        Spot::Refused(n) => Spot::Refused(n),
-        Spot::In(o) => {
+        Checked::Refused(n) => Checked::Refused(n),
+        Checked::Object(o) => {
             let refusal = check_reference(words, bytes, permanent, scratch, map, t, target);
             let may = may_refer(words, bytes, o.area, handle::area(target));
             if refusal != 0 {
-                return Spot::Refused(refusal);
+                return Checked::Refused(refusal);
             }
             if !may {
-                return Spot::Refused(16);
+                return Checked::Refused(16);
             }
-            Spot::In(o)
+            Checked::Object(o)
         }
     }
 }
@@ -131,9 +126,8 @@ pub fn store(
     q: u64,
     target: u64,
 ) -> Answer
-    requires { ⌜ Ready (now words) (now bytes) ⌝ }
-    ensures { λ r. ⌜ Told (r .status) (r .value) (stateOf (now (words .entry)) (now (bytes .entry))) (calls.outcomeOf (stateOf (now (words .entry)) (now (bytes .entry))) (memoryOf (now (permanent .entry)) (now (scratch .entry)) (now (map .entry))) (calls.store t p q target)) ⌝ }
-    ensures { λ r. ⌜ Written (now (permanent .exit)) (now (scratch .exit)) (now (map .entry)) (calls.outcomeOf (stateOf (now (words .entry)) (now (bytes .entry))) (memoryOf (now (permanent .entry)) (now (scratch .entry)) (now (map .entry))) (calls.store t p q target)) ⌝ }
+    requires { ⌜ Usable words bytes ⌝ }
+    ensures { λ r. ⌜ Answers r words bytes permanent scratch map (calls.store t p q target) ⌝ }
 {
     let caller = threads::check_caller(words, bytes, permanent, scratch, map, t);
     if caller != 0 {
@@ -143,10 +137,10 @@ pub fn store(
         };
     }
     match check_store(words, bytes, permanent, scratch, map, t, p, q, target) {
-        Spot::Refused(status) => Answer { status, value: 0 },
-        Spot::In(o) => {
+        Checked::Refused(status) => Answer { status, value: 0 },
+        Checked::Object(o) => {
             let at = o.at + 1 + q as usize;
-            access::put_word(permanent, scratch, o.area, at, target);
+            objects::put_word(permanent, scratch, o.area, at, target);
             Answer {
                 status: 0,
                 value: 0,
@@ -168,8 +162,8 @@ pub fn load(
     p: u64,
     q: u64,
 ) -> Answer
-    requires { ⌜ Ready (now words) (now bytes) ⌝ }
-    ensures { λ r. ⌜ Told (r .status) (r .value) (stateOf (now (words .entry)) (now (bytes .entry))) (calls.outcomeOf (stateOf (now (words .entry)) (now (bytes .entry))) (memoryOf (now (permanent .entry)) (now (scratch .entry)) (now (map .entry))) (calls.load t p q)) ⌝ }
+    requires { ⌜ Usable words bytes ⌝ }
+    ensures { λ r. ⌜ Answers r words bytes permanent scratch map (calls.load t p q) ⌝ }
 {
     let refusal = threads::check_caller(words, bytes, permanent, scratch, map, t);
     if refusal != 0 {
@@ -179,8 +173,8 @@ pub fn load(
         };
     }
     match check_slot(words, bytes, permanent, scratch, map, t, p, q) {
-        Spot::Refused(status) => Answer { status, value: 0 },
-        Spot::In(o) => {
+        Checked::Refused(status) => Answer { status, value: 0 },
+        Checked::Object(o) => {
             let from = o.at + 1 + q as usize;
             let x = objects::word_at(permanent, scratch, o.area, from);
             let status = check_reference(words, bytes, permanent, scratch, map, t, x);

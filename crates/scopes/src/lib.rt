@@ -2,7 +2,7 @@
 use layout::stack::Answer;
 use tables::Bytes;
 use tables::Words;
-ghost use Rattle.tables.specs.Contract.{Ready, Answers};
+ghost use Rattle.tables.specs.Contract.{Usable, Answers};
 ghost use Rattle.scopes.specs.Step.{callOf};
 
 // The ops, 01 to 0a.
@@ -32,7 +32,7 @@ pub fn carry_out(
     q: u64,
     r: u64,
 ) -> Answer
-    requires { ⌜ Ready (now words) (now bytes) ⌝ }
+    requires { ⌜ Usable words bytes ⌝ }
     ensures { λ a. ⌜ Answers a words bytes permanent scratch map (callOf op t p q r) ⌝ }
 {
     match op {
@@ -44,7 +44,7 @@ pub fn carry_out(
         Op::Allocate => allocation::allocate(words, bytes, permanent, scratch, map, t, q, r),
         Op::Store => references::store(words, bytes, permanent, scratch, map, t, p, q, r),
         Op::Load => references::load(words, bytes, permanent, scratch, map, t, p, q),
-        Op::Write => access::write(words, bytes, permanent, scratch, map, t, p, q, r),
-        Op::Read => access::read(words, bytes, permanent, scratch, map, t, p, q)
+        Op::Write => data::write(words, bytes, permanent, scratch, map, t, p, q, r),
+        Op::Read => data::read(words, bytes, permanent, scratch, map, t, p, q)
     }
 }

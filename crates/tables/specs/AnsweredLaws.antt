@@ -1,77 +1,99 @@
--- How the contract of an op gives the one contract for any call: one law for each way in which it is lent the tables and the buffers, to write
--- or to read. At a call that is named, each premise on callWords and callMemory is refl. And what the one contract says: a step of run.
+-- How a call meets its contract, one law for each way that it ends; and what the contract says: a step of run.
 -- Assumes nothing.
 use Prim.Native.Nat.{ℕ}
-use mathlib.Core.Bool.{false}
+use mathlib.Core.Bool.{true, false}
 use mathlib.Core.List.{List, [], _∷_}
-use mathlib.Core.Path.{_≡_, refl, sym, _∙_}
+use mathlib.Core.Logic.{_≢_}
+use mathlib.Core.Path.{_≡_, refl, sym, ap, _∙_}
+use native.Mathlib.Omega.{arith}
 use lib.Dec.{eqb}
+use borrow.Author.Tests.{eq-eqb, ne-eqb, eqb-true}
 use Rattle.layout.specs.Choice.{pick, cases, pick-false}
 use Rattle.model.specs.State.{State, Memory}
-use Rattle.model.specs.Checks.{fits}
-use Rattle.model.specs.Calls.{Call, callStatus, callMemory, callWords, Reply, outcomeOf}
+use Rattle.model.specs.Checks.{fits, fitted, Change}
+use Rattle.model.specs.Calls.{Call, Effect, changing, effectOf, callStatus, callValue, callWords, callState, callMemory, Reply, settled, outcomeOf}
 use Rattle.model.specs.Run.{kept, other, Element, Line, World, suppliedTo, step}
-use Rattle.model.proofs.Outcomes.{unfit-memory}
-use Rattle.tables.specs.Decode.{stateOf}
-use Rattle.tables.specs.Contract.{memoryOf, Ready, Done, Told, Written, plain, Answered}
+use Rattle.model.specs.Invariant.{Good}
+use Rattle.model.proofs.Keeps.{good-call}
+use Rattle.model.proofs.Outcomes.{unfit-memory, unfit-fitted, fit-fitted}
+use Rattle.tables.specs.Decode.{stateOf, Holds}
+use Rattle.tables.specs.Contract.{Ready, plain, Answered, Changed}
 
--- ---- an answer that shows no words, and buffers that are not written
+-- ---- any call
 
-plain-is : (s : State) (m : Memory) (c : Call) → callWords s m c ≡ []
-    → plain (outcomeOf s m c .reply .status) (outcomeOf s m c .reply .value) ≡ outcomeOf s m c .reply
-unfolding outcomeOf
-plain-is s m c n = cases (eqb (callStatus s m c) 0) (λ e. rw (e, n) refl) (λ e. rw e refl)
+module _ (w b : List ℕ) (m : Memory) (c : Call) (y : Ready w b) {n : ℕ} (e : n ≡ callStatus (stateOf w b) m c) where
+  -- a refused call leaves tables and buffers as they were
+  pub answered-refused : n ≢ 0 → Answered w b m c (plain n 0) w b m
+  unfolding outcomeOf
+  answered-refused h =
+      let k = ne-eqb (callStatus (stateOf w b) m c) 0 (λ z. h (e ∙ z)) in
+      record { reply-is = rw (k, e) refl; state-is = rw k refl; memory-is = rw k refl; ready = y }
 
-pub memory-kept : (s : State) (m : Memory) (c : Call) → callMemory s m c ≡ m → m ≡ outcomeOf s m c .memory
-unfolding outcomeOf
-memory-kept s m c n = cases (eqb (callStatus s m c) 0) (λ e. rw (e, n) refl) (λ e. rw e refl)
+  -- an accepted one leaves those of its effect
+  pub answered-accepted : n ≡ 0 → callWords (stateOf w b) m c ≡ []
+      → {v : ℕ} → v ≡ callValue (stateOf w b) m c
+      → {w′ b′ : List ℕ} → Holds w′ b′ (callState (stateOf w b) m c)
+      → {m′ : Memory} → m′ ≡ callMemory (stateOf w b) m c
+      → Answered w b m c (plain 0 v) w′ b′ m′
+  unfolding outcomeOf
+  answered-accepted z l f h g =
+      let a : callStatus (stateOf w b) m c ≡ 0 = sym e ∙ z in
+      let k = eq-eqb (callStatus (stateOf w b) m c) 0 a in
+      record {
+        reply-is = rw (k, f, l) refl;
+        state-is = h .state ∙ rw k refl;
+        memory-is = g ∙ rw k refl;
+        ready = record { sized = h .sized; good = rw (h .state) (good-call (stateOf w b) m c (y .good) a) };
+      }
 
--- ---- the four ways
+-- ---- a call that touches no lent word
 
-module _ (w b : List ℕ) (m : Memory) (c : Call) (n : callWords (stateOf w b) m c ≡ []) (status value : ℕ) where
-  answer-is : status ≡ outcomeOf (stateOf w b) m c .reply .status → value ≡ outcomeOf (stateOf w b) m c .reply .value
-      → plain status value ≡ outcomeOf (stateOf w b) m c .reply
-  answer-is e f = rw (e, f) (plain-is (stateOf w b) m c n)
+module _ (w b : List ℕ) (x : Change) (y : Ready w b) {n : ℕ} (e : n ≡ x .status) where
+  -- after refusal 1, refused
+  pub changed-refused : n ≢ 0 → Changed w b x n 0 w b
+  changed-refused h =
+      let k = ne-eqb (x .status) 0 (λ z. h (e ∙ z)) in
+      record { status-is = e; value-is = rw k refl; state-is = rw k refl; ready = y }
 
-  module _ {w′ b′ : List ℕ} (d : Done status value w′ b′ (outcomeOf (stateOf w b) m c)) where
-    -- tables and buffers to write
-    pub done-written : {p′ s′ m′ : List ℕ} → Written p′ s′ m′ (outcomeOf (stateOf w b) m c)
-        → Answered w b m c (plain status value) w′ b′ (memoryOf p′ s′ m′)
-    done-written x = record {
-      reply-is = answer-is (d .status-is) (d .value-is);
-      state-is = d .holds .state;
-      memory-is = rw (x .permanent-is, x .scratch-is, x .map-is) refl;
-      ready = d .ready;
-    }
+  -- or accepted
+  pub changed-accepted : n ≡ 0 → {v : ℕ} → v ≡ x .value → {w′ b′ : List ℕ} → Holds w′ b′ (x .state) → Good (x .state) → Changed w b x 0 v w′ b′
+  changed-accepted z f h g =
+      let k = eq-eqb (x .status) 0 (sym e ∙ z) in
+      record {
+        status-is = sym z ∙ e;
+        value-is = f ∙ rw k refl;
+        state-is = h .state ∙ rw k refl;
+        ready = record { sized = h .sized; good = rw (h .state) g };
+      }
 
-    -- tables to write, buffers to read
-    pub done-kept : callMemory (stateOf w b) m c ≡ m → Answered w b m c (plain status value) w′ b′ m
-    done-kept k = record {
-      reply-is = answer-is (d .status-is) (d .value-is);
-      state-is = d .holds .state;
-      memory-is = memory-kept (stateOf w b) m c k;
-      ready = d .ready;
-    }
+-- a call whose effect is such a change: lent other lengths it is refused by 1, else it does what the change says
+module _ (w b : List ℕ) (m : Memory) (c : Call) (x : Change) (q : effectOf (stateOf w b) m c ≡ changing (stateOf w b) m x) where
+  status-fitted : callStatus (stateOf w b) m c ≡ fitted (stateOf w b) m (x .status)
+  status-fitted = ap (λ (k : Effect). k .status) q
 
-  module _ (y : Ready w b) (d : Told status value (stateOf w b) (outcomeOf (stateOf w b) m c)) where
-    -- tables to read, buffers to write
-    pub told-written : {p′ s′ m′ : List ℕ} → Written p′ s′ m′ (outcomeOf (stateOf w b) m c)
-        → Answered w b m c (plain status value) w b (memoryOf p′ s′ m′)
-    told-written x = record {
-      reply-is = answer-is (d .status-is) (d .value-is);
-      state-is = d .state-is;
-      memory-is = rw (x .permanent-is, x .scratch-is, x .map-is) refl;
-      ready = y;
-    }
+  pub unfit-answered : Ready w b → fits (stateOf w b) m ≡ false → Answered w b m c (plain 1 0) w b m
+  unfit-answered y u = answered-refused w b m c y (sym (status-fitted ∙ unfit-fitted (stateOf w b) m u (x .status))) (λ z. omega arith)
 
-    -- both to read
-    pub told-kept : callMemory (stateOf w b) m c ≡ m → Answered w b m c (plain status value) w b m
-    told-kept k = record {
-      reply-is = answer-is (d .status-is) (d .value-is);
-      state-is = d .state-is;
-      memory-is = memory-kept (stateOf w b) m c k;
-      ready = y;
-    }
+  outcome-is : outcomeOf (stateOf w b) m c ≡ settled (stateOf w b) m (changing (stateOf w b) m x)
+  unfolding outcomeOf
+  outcome-is = ap (settled (stateOf w b) m) q
+
+  pub fit-answered : fits (stateOf w b) m ≡ true → {n v : ℕ} {w′ b′ : List ℕ} → Changed w b x n v w′ b′ → Answered w b m c (plain n v) w′ b′ m
+  fit-answered f d =
+      let s = fit-fitted (stateOf w b) m f (x .status) in
+      cases (eqb (x .status) 0)
+      (λ k. record {
+        reply-is = rw (outcome-is, s, d .status-is, d .value-is, k) (rw (eqb-true (x .status) 0 k) refl);
+        state-is = rw (outcome-is, s, k) (d .state-is ∙ rw k refl);
+        memory-is = rw (outcome-is, s, k) refl;
+        ready = d .ready;
+      })
+      (λ k. record {
+        reply-is = rw (outcome-is, s, d .status-is, d .value-is, k) refl;
+        state-is = rw (outcome-is, s, k) (d .state-is ∙ rw k refl);
+        memory-is = rw (outcome-is, s, k) refl;
+        ready = d .ready;
+      })
 
 -- ---- a call by its contract is a step
 

@@ -1,45 +1,65 @@
--- What the contracts of the calls have in common: what a call may rely on, and what it leaves.
+-- The contracts of the calls: what every call may rely on, and what every call promises. One contract for any call, over what it is lent.
 -- Assumes nothing.
 use mathlib.Core.List.{List, []}
 use mathlib.Core.Path.{_≡_}
 use Prim.Native.Nat.{ℕ}
+use lib.Dec.{eqb}
 use denote.Ref.{RefT, now}
 use denote.Triple.Both.{Both}
+use Rattle.layout.specs.Choice.{pick}
 use Rattle.layout.specs.declared.stack.Answer.{Answer}
 use Rattle.model.specs.State.{State, Memory}
-use Rattle.model.specs.Calls.{Call, Reply, Outcome, outcomeOf}
+use Rattle.model.specs.Checks.{Change}
+use Rattle.model.specs.Calls.{Call, Reply, outcomeOf}
 use Rattle.model.specs.Invariant.{Good}
 use Rattle.tables.specs.Decode.{stateOf, Shaped, Holds}
+
+-- ---- what a function is lent
+
+-- a table or a buffer at one moment
+abbrev pub Cell : Type 0
+Cell = RefT (List ℕ)
+
+-- the same as it is at the call (.entry) and at the return (.exit); what is lent to read is at the return what it was at the call
+abbrev pub Borrowed : Type 0
+Borrowed = Both Cell Cell
 
 -- the three lent buffers
 abbrev pub memoryOf : List ℕ → List ℕ → List ℕ → Memory
 memoryOf p s m = record { permanent = p; scratch = s; map = m }
+
+-- in what a function asks: the state in the tables, the memory in the buffers
+abbrev pub stateIn : Cell → Cell → State
+stateIn words bytes = stateOf (now words) (now bytes)
+
+abbrev pub memoryIn : Cell → Cell → Cell → Memory
+memoryIn permanent scratch map = memoryOf (now permanent) (now scratch) (now map)
+
+-- in what it promises: both at the call, and the memory at the return
+abbrev pub before : Borrowed → Borrowed → State
+before words bytes = stateIn (words .entry) (bytes .entry)
+
+abbrev pub supplied : Borrowed → Borrowed → Borrowed → Memory
+supplied permanent scratch map = memoryIn (permanent .entry) (scratch .entry) (map .entry)
+
+abbrev pub returned : Borrowed → Borrowed → Borrowed → Memory
+returned permanent scratch map = memoryIn (permanent .exit) (scratch .exit) (map .exit)
+
+-- the tables at the return hold a state
+abbrev pub Leaves : Borrowed → Borrowed → State → Type 0
+Leaves words bytes s = Holds (now (words .exit)) (now (bytes .exit)) s
+
+-- ---- what a call asks
 
 -- what set-up and every call leave, and all that a call asks: the tables hold a state of the invariant
 pub record Ready (w b : List ℕ) : Type 0 where
   pub sized : Shaped w b
   pub good : Good (stateOf w b)
 
--- a call's answer and the tables that it leaves are those of the definition, and it leaves what the next call asks
-pub record Done (status value : ℕ) (w b : List ℕ) (o : Outcome) : Type 0 where
-  pub status-is : status ≡ o .reply .status
-  pub value-is : value ≡ o .reply .value
-  pub holds : Holds w b (o .state)
-  pub ready : Ready w b
+abbrev pub Usable : Cell → Cell → Type 0
+Usable words bytes = Ready (now words) (now bytes)
 
--- a call that is lent the tables to read: its answer is that of the definition, which leaves the state
-pub record Told (status value : ℕ) (s : State) (o : Outcome) : Type 0 where
-  pub status-is : status ≡ o .reply .status
-  pub value-is : value ≡ o .reply .value
-  pub state-is : s ≡ o .state
-
--- the lent words that a call leaves are those of the definition
-pub record Written (p s m : List ℕ) (o : Outcome) : Type 0 where
-  pub permanent-is : p ≡ o .memory .permanent
-  pub scratch-is : s ≡ o .memory .scratch
-  pub map-is : m ≡ o .memory .map
-
--- ---- one contract for any call
+-- ---- what a call promises
 
 -- an answer that shows no words
 abbrev pub plain : ℕ → ℕ → Reply
@@ -57,17 +77,23 @@ pub record Answered (w b : List ℕ) (m : Memory) (c : Call) (r : Reply) (w′ b
   pub memory-is : m′ ≡ outcomeOf (stateOf w b) m c .memory
   pub ready : Ready w′ b′
 
--- a table or a buffer that a function is lent, as it is at the call (.entry) and at the return (.exit)
-abbrev pub Borrowed : Type 0
-Borrowed = Both (RefT (List ℕ)) (RefT (List ℕ))
-
 -- the same over what a function is lent: it answered r to call c
 abbrev pub Replies : Reply → Borrowed → Borrowed → Borrowed → Borrowed → Borrowed → Call → Type 0
 Replies r words bytes permanent scratch map c =
-    Answered (now (words .entry)) (now (bytes .entry)) (memoryOf (now (permanent .entry)) (now (scratch .entry)) (now (map .entry)))
+    Answered (now (words .entry)) (now (bytes .entry)) (supplied permanent scratch map)
     c r
-    (now (words .exit)) (now (bytes .exit)) (memoryOf (now (permanent .exit)) (now (scratch .exit)) (now (map .exit)))
+    (now (words .exit)) (now (bytes .exit)) (returned permanent scratch map)
 
 -- the same of a call that shows no words
 abbrev pub Answers : Answer → Borrowed → Borrowed → Borrowed → Borrowed → Borrowed → Call → Type 0
 Answers r words bytes permanent scratch map c = Replies (plain (r .status) (r .value)) words bytes permanent scratch map c
+
+-- What a call that touches no lent word does to the tables w, b after refusal 1: a refusal yields 0 and leaves the state.
+pub record Changed (w b : List ℕ) (x : Change) (status value : ℕ) (w′ b′ : List ℕ) : Type 0 where
+  pub status-is : status ≡ x .status
+  pub value-is : value ≡ pick (eqb (x .status) 0) (x .value) 0
+  pub state-is : stateOf w′ b′ ≡ pick (eqb (x .status) 0) (x .state) (stateOf w b)
+  pub ready : Ready w′ b′
+
+abbrev pub Changes : Answer → Borrowed → Borrowed → Change → Type 0
+Changes r words bytes x = Changed (now (words .entry)) (now (bytes .entry)) x (r .status) (r .value) (now (words .exit)) (now (bytes .exit))

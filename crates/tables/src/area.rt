@@ -4,6 +4,7 @@ use crate::Words;
 use model::Area;
 ghost use mathlib.Core.Path.{_≡_};
 ghost use Prim.Native.Nat.{_<_};
+ghost use Rattle.model.specs.State.{madeAs};
 ghost use Rattle.tables.specs.Decode.{areaCount, areaRecord, putArea};
 
 pub fn area_at(words: &Words, a: usize) -> Area
@@ -34,4 +35,15 @@ pub fn put_area(words: &mut Words, a: usize, x: Area)
     words[i + 4] = x.count;
     words[i + 5] = x.parent;
     words[i + 6] = x.depth;
+}
+
+// Whether area a, whose record is x, is made: heap and immortal are always there, and a scope that is
+// made has a size above 0.
+pub fn is_made(x: Area, a: u64) -> bool
+    ensures { λ r. ⌜ r ≡ madeAs x a ⌝ }
+{
+    if a < 2 {
+        return true;
+    }
+    0 < x.size
 }

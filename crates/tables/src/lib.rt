@@ -11,6 +11,7 @@ mod row; // row.rt: one byte of a row
 mod thread; // thread.rt: kinds and stacks
 
 pub use area::area_at;
+pub use area::is_made;
 pub use area::put_area;
 pub use displays::put_row;
 pub use displays::row_at;

@@ -1,18 +1,20 @@
--- Refusals 1 and 2, one law for each way that the checks end.
+-- Refusals 1 and 2: one law for each way that the checks end, and how a call goes on after them.
 -- Assumes nothing.
-use mathlib.Core.Path.{_≡_, sym, _∙_}
+use mathlib.Core.Path.{_≡_, refl, sym, _∙_}
 use mathlib.Core.Bool.{Bool, true, false, not}
 use mathlib.Core.Logic.{_≢_}
 use mathlib.Core.List.{List}
 use Prim.Native.Nat.{ℕ, _≤_, _<_}
 use native.Mathlib.Omega.{arith}
-use lib.Dec.{eqb}
+use lib.Dec.{eqb, leb}
 use lib.ListN.{length}
 use borrow.Author.Tests.{le-leb, lt-leb, lt-ltb, le-ltb, eq-eqb, ne-eqb, not-true, not-false}
-use Rattle.layout.specs.Choice.{refuse}
+use Rattle.layout.specs.Choice.{refuse, cases}
 use Rattle.model.specs.declared.Lengths.{Lengths}
 use Rattle.model.specs.State.{State, Memory, threadAt}
-use Rattle.model.specs.Checks.{fits, admit}
+use Rattle.model.specs.Checks.{fits, isStarted, called, admit}
+use Rattle.model.proofs.Accepted.{Called, called-ok, Admitted, admitted}
+use Rattle.model.proofs.Outcomes.{unfit-fitted, fit-fitted}
 use Rattle.tables.specs.Decode.{stateOf, lengthsRecord}
 use Rattle.tables.specs.Laws.{lengths-read}
 
@@ -45,20 +47,53 @@ module _ (s : State) (m : Memory) {r : Bool} (e : r ≡ fits s m) where
 
 -- ---- the thread
 
-module _ (s : State) (m : Memory) (t rest : ℕ) where
-  pub not-supplied : fits s m ≡ false → 1 ≡ admit s m t rest
-  unfolding admit refuse
-  not-supplied e = rw e
+module _ (s : State) (t rest : ℕ) where
+  pub no-thread : 16 ≤ t → 2 ≡ called s t rest
+  unfolding called refuse
+  no-thread h = rw (le-leb 16 t h)
 
-  module _ (e : fits s m ≡ true) where
-    pub no-thread : 16 ≤ t → 2 ≡ admit s m t rest
-    unfolding admit refuse
-    no-thread h = rw (e, le-leb 16 t h)
+  pub not-started : t < 16 → threadAt s t .kind ≡ 0 → 2 ≡ called s t rest
+  unfolding called refuse
+  not-started h k = rw (lt-leb 16 t h, le-ltb 0 (threadAt s t .kind) (omega arith))
 
-    pub not-started : t < 16 → threadAt s t .kind ≡ 0 → 2 ≡ admit s m t rest
-    unfolding admit refuse
-    not-started h k = rw (e, lt-leb 16 t h, le-ltb 0 (threadAt s t .kind) (omega arith))
+  pub started : t < 16 → threadAt s t .kind ≢ 0 → rest ≡ called s t rest
+  unfolding called refuse
+  started h k = let z : threadAt s t .kind ≡ 0 → ⊥ = k in rw (lt-leb 16 t h, lt-ltb 0 (threadAt s t .kind) (omega arith))
 
-    pub started : t < 16 → threadAt s t .kind ≢ 0 → rest ≡ admit s m t rest
-    unfolding admit refuse
-    started h k = let z : threadAt s t .kind ≡ 0 → ⊥ = k in rw (e, lt-leb 16 t h, lt-ltb 0 (threadAt s t .kind) (omega arith))
+-- ---- after refusal 2
+
+-- a chain of two that refuses does so whatever follows it
+first-two : (a b : Bool) (i j rest : ℕ) → refuse a i (refuse b j 0) ≢ 0 → refuse a i (refuse b j 0) ≡ refuse a i (refuse b j rest)
+unfolding refuse
+first-two true b i j rest h = refl
+first-two false true i j rest h = refl
+first-two false false i j rest h = absurd (h refl)
+
+module _ (s : State) (t : ℕ) where
+  -- n is what check_thread answers: where it refuses, the call is refused by it
+  pub thread-refused : {n : ℕ} → n ≡ called s t 0 → n ≢ 0 → (rest : ℕ) → n ≡ called s t rest
+  unfolding called
+  thread-refused e h rest = e ∙ first-two (leb 16 t) (not (isStarted s t)) 2 2 rest (λ z. h (e ∙ z))
+
+  -- where it does not, there is such a thread
+  pub thread-called : {n : ℕ} → n ≡ called s t 0 → n ≡ 0 → Called s t
+  thread-called e z = called-ok s t 0 (sym e ∙ z) .0
+
+  -- and the rest of the refusals counts
+  pub called-rest : Called s t → (rest : ℕ) → called s t rest ≡ rest
+  called-rest a rest = sym (started s t rest (a .thread) (λ z. omega (arith, a .started)))
+
+-- ---- after both
+
+module _ (s : State) (m : Memory) (t : ℕ) where
+  -- n is what check_caller answers
+  pub caller-refused : {n : ℕ} → n ≡ admit s m t 0 → n ≢ 0 → (rest : ℕ) → n ≡ admit s m t rest
+  caller-refused e h rest = cases (fits s m)
+      (λ f. e ∙ fit-fitted s m f _ ∙ thread-refused s t refl (λ z. h (e ∙ fit-fitted s m f _ ∙ z)) rest ∙ sym (fit-fitted s m f _))
+      (λ u. e ∙ unfit-fitted s m u _ ∙ sym (unfit-fitted s m u _))
+
+  pub caller-admitted : {n : ℕ} → n ≡ admit s m t 0 → n ≡ 0 → Admitted s m t
+  caller-admitted e z = admitted s m t 0 (sym e ∙ z) .0
+
+  pub admit-rest : Admitted s m t → (rest : ℕ) → admit s m t rest ≡ rest
+  admit-rest a rest = fit-fitted s m (a .supplied) _ ∙ called-rest s t (a .called) rest

@@ -1,5 +1,5 @@
 -- The laws that the calls share, and those of the calls of threads.
-pub mod Outcomes
 pub mod Caller
 pub mod Stack
 pub mod Thread
+pub mod Rights

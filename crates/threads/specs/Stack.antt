@@ -6,7 +6,7 @@ use Prim.Native.Nat.{ℕ, suc, _-_, _≤_, _<_}
 use native.Mathlib.Omega.{arith}
 use lib.ListN.{getD}
 use Rattle.layout.specs.Stack.{down}
-use Rattle.model.specs.State.{Thread, threadAt, stackOf, stackAt, current, innermost}
+use Rattle.model.specs.State.{Thread, threadAt, entriesOf, stackAt, current, innermost}
 use Rattle.model.specs.Invariant.{ThreadGood}
 use Rattle.tables.specs.Decode.{stateOf, lenOf, entryOf, innerOf}
 use Rattle.tables.specs.Laws.{len-read, entry-read, inner-read}
@@ -19,20 +19,20 @@ unfolding down
 down-none l n e = ap (down l) e
 
 module _ (h : Thread) where
-  pub current-none : h .len ≡ 0 → current (stackOf h) ≡ 0
-  unfolding stackOf
+  pub current-none : h .len ≡ 0 → current (entriesOf h) ≡ 0
+  unfolding entriesOf
   current-none e = ap current (down-none (h .entries) (h .len) e)
 
-  pub inner-none : h .len ≡ 0 → innermost (stackOf h) ≡ 0
-  unfolding stackOf innermost
+  pub inner-none : h .len ≡ 0 → innermost (entriesOf h) ≡ 0
+  unfolding entriesOf innermost
   inner-none e = ap innermost (down-none (h .entries) (h .len) e)
 
-  pub current-top : (n : ℕ) → h .len ≡ suc n → current (stackOf h) ≡ getD (h .entries) n 0
-  unfolding stackOf down
+  pub current-top : (n : ℕ) → h .len ≡ suc n → current (entriesOf h) ≡ getD (h .entries) n 0
+  unfolding entriesOf down
   current-top n e = ap (λ (k : ℕ). current (down (h .entries) k)) e
 
-  pub inner-top : ThreadGood h → (n : ℕ) → h .len ≡ suc n → innermost (stackOf h) ≡ getD (h .inner) n 0
-  unfolding stackOf
+  pub inner-top : ThreadGood h → (n : ℕ) → h .len ≡ suc n → innermost (entriesOf h) ≡ getD (h .inner) n 0
+  unfolding entriesOf
   inner-top g n e = ap (λ (k : ℕ). innermost (down (h .entries) k)) e ∙ sym (g .inner-is n (omega arith))
 
 -- ---- of a thread in the tables, where n is the length of its stack

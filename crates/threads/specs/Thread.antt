@@ -1,84 +1,78 @@
 -- Ops 01 and 02: one law for each way that their checks end, and what they leave.
 -- Assumes nothing.
-use mathlib.Core.Path.{_≡_, sym, _∙_}
-use mathlib.Core.Bool.{true, false}
+use mathlib.Core.Path.{_≡_, refl, sym, _∙_}
 use mathlib.Core.Logic.{_≢_}
 use mathlib.Core.List.{List}
 use Prim.Native.Nat.{ℕ, _≤_, _<_}
 use native.Mathlib.Omega.{arith}
 use borrow.Author.Tests.{le-leb, lt-leb, lt-ltb, le-ltb}
 use Rattle.layout.specs.Choice.{refuse, hit, skip}
-use Rattle.model.specs.State.{State, Memory, threadAt}
-use Rattle.model.specs.Checks.{fits, admit}
-use Rattle.model.specs.Threads.{startStatus, startState, endStatus, endState}
-use Rattle.model.proofs.Accepted.{Admitted, start-ok, end-ok}
-use Rattle.tables.specs.Decode.{stateOf, putKind, Shaped, Holds}
+use Rattle.model.specs.State.{State, threadAt}
+use Rattle.model.specs.Checks.{called}
+use Rattle.model.specs.Threads.{startRest, startState, startChange, endRest, endState, endChange}
+use Rattle.model.proofs.Accepted.{Called, start-ok, end-ok}
+use Rattle.model.proofs.KeepsThreads.{good-start, good-end}
+use Rattle.tables.specs.Decode.{stateOf, putKind}
 use Rattle.tables.specs.Laws.{state-kind}
-use Rattle.threads.specs.Outcomes.{caller-refused, admit-rest}
+use Rattle.tables.specs.Contract.{Ready, Changed}
+use Rattle.tables.specs.AnsweredLaws.{changed-accepted}
+use Rattle.threads.specs.Caller.{thread-refused, called-rest}
 
 -- ---- op 01
 
-module _ (s : State) (m : Memory) (t p : ℕ) where
-  pub start-not-supplied : fits s m ≡ false → 1 ≡ startStatus s m t p
-  unfolding startStatus refuse
-  start-not-supplied e = rw e
+module _ (s : State) (t p : ℕ) where
+  pub start-no-thread : 16 ≤ t → 2 ≡ startRest s t p
+  unfolding startRest refuse
+  start-no-thread h = rw (le-leb 16 t h)
 
-  module _ (e : fits s m ≡ true) where
-    pub start-no-thread : 16 ≤ t → 2 ≡ startStatus s m t p
-    unfolding startStatus refuse
-    start-no-thread h = rw (e, le-leb 16 t h)
+  module _ (h : t < 16) where
+    pub start-started : threadAt s t .kind ≢ 0 → 3 ≡ startRest s t p
+    unfolding startRest refuse
+    start-started k = let z : threadAt s t .kind ≡ 0 → ⊥ = k in rw (lt-leb 16 t h, lt-ltb 0 (threadAt s t .kind) (omega arith))
 
-    module _ (h : t < 16) where
-      pub start-started : threadAt s t .kind ≢ 0 → 3 ≡ startStatus s m t p
-      unfolding startStatus refuse
-      start-started k = let z : threadAt s t .kind ≡ 0 → ⊥ = k in rw (e, lt-leb 16 t h, lt-ltb 0 (threadAt s t .kind) (omega arith))
+    module _ (k : threadAt s t .kind ≡ 0) where
+      pub start-no-kind : p ≡ 0 → 4 ≡ startRest s t p
+      unfolding startRest refuse
+      start-no-kind z = rw (lt-leb 16 t h, le-ltb 0 (threadAt s t .kind) (omega arith), le-ltb 0 p (omega arith))
 
-      module _ (k : threadAt s t .kind ≡ 0) where
-        pub start-no-kind : p ≡ 0 → 4 ≡ startStatus s m t p
-        unfolding startStatus refuse
-        start-no-kind z = rw (e, lt-leb 16 t h, le-ltb 0 (threadAt s t .kind) (omega arith), le-ltb 0 p (omega arith))
+      pub start-other-kind : p ≢ 0 → 3 < p → 4 ≡ startRest s t p
+      unfolding startRest refuse
+      start-other-kind z l = rw (lt-leb 16 t h, le-ltb 0 (threadAt s t .kind) (omega arith), lt-ltb 0 p (omega arith), le-ltb p 4 (omega arith))
 
-        pub start-other-kind : p ≢ 0 → 3 < p → 4 ≡ startStatus s m t p
-        unfolding startStatus refuse
-        start-other-kind z l = rw (e, lt-leb 16 t h, le-ltb 0 (threadAt s t .kind) (omega arith), lt-ltb 0 p (omega arith), le-ltb p 4 (omega arith))
-
-        pub start-accepted : p ≢ 0 → p ≤ 3 → 0 ≡ startStatus s m t p
-        unfolding startStatus refuse
-        start-accepted z l =
-            let n : p ≡ 0 → ⊥ = z in
-            rw (e, lt-leb 16 t h, le-ltb 0 (threadAt s t .kind) (omega arith), lt-ltb 0 p (omega arith), lt-ltb p 4 (omega arith))
-
-  -- n is what check_start answers
-  pub start-thread : {n : ℕ} → n ≡ startStatus s m t p → n ≡ 0 → t < 16
-  start-thread e z = start-ok s m t p (sym e ∙ z) .thread
+      pub start-accepted : p ≢ 0 → p ≤ 3 → 0 ≡ startRest s t p
+      unfolding startRest refuse
+      start-accepted z l =
+          let n : p ≡ 0 → ⊥ = z in
+          rw (lt-leb 16 t h, le-ltb 0 (threadAt s t .kind) (omega arith), lt-ltb 0 p (omega arith), lt-ltb p 4 (omega arith))
 
 -- ---- op 02
 
-module _ (s : State) (m : Memory) (t : ℕ) where
-  pub end-not-called : {n : ℕ} → n ≡ admit s m t 0 → n ≢ 0 → n ≡ endStatus s m t
-  unfolding endStatus
-  end-not-called e h = caller-refused s m t e h _
+module _ (s : State) (t : ℕ) where
+  pub end-not-called : {n : ℕ} → n ≡ called s t 0 → n ≢ 0 → n ≡ endRest s t
+  unfolding endRest
+  end-not-called e h = thread-refused s t e h _
 
-  module _ (a : Admitted s m t) where
-    pub end-entries : 0 < threadAt s t .len → 11 ≡ endStatus s m t
-    unfolding endStatus
-    end-entries h = sym (admit-rest s m t a _ ∙ hit _ 11 0 (lt-ltb 0 (threadAt s t .len) h))
+  module _ (a : Called s t) where
+    pub end-entries : 0 < threadAt s t .len → 11 ≡ endRest s t
+    unfolding endRest
+    end-entries h = sym (called-rest s t a _ ∙ hit _ 11 0 (lt-ltb 0 (threadAt s t .len) h))
 
-    pub end-accepted : threadAt s t .len ≤ 0 → 0 ≡ endStatus s m t
-    unfolding endStatus
-    end-accepted h = sym (admit-rest s m t a _ ∙ skip _ 11 0 (le-ltb 0 (threadAt s t .len) h))
-
-  -- n is what check_end answers
-  pub end-thread : {n : ℕ} → n ≡ endStatus s m t → n ≡ 0 → t < 16
-  end-thread e z = end-ok s m t (sym e ∙ z) .called .thread
+    pub end-accepted : threadAt s t .len ≤ 0 → 0 ≡ endRest s t
+    unfolding endRest
+    end-accepted h = sym (called-rest s t a _ ∙ skip _ 11 0 (le-ltb 0 (threadAt s t .len) h))
 
 -- ---- what is left
 
-module _ (w b : List ℕ) (z : Shaped w b) (t : ℕ) (h : t < 16) where
-  pub kind-started : (p : ℕ) → Holds (putKind w t p) b (startState (stateOf w b) t p)
+-- a thread's kind is written, where n is what the check answers
+module _ (w b : List ℕ) (y : Ready w b) (t : ℕ) where
+  pub started-on : (p : ℕ) {n : ℕ} → n ≡ startRest (stateOf w b) t p → n ≡ 0 → Changed w b (startChange (stateOf w b) t p) n 0 (putKind w t p) b
   unfolding startState
-  kind-started p = state-kind w b t p h z
+  started-on p e z =
+      let ok = start-ok (stateOf w b) t p (sym e ∙ z) in
+      rw z (changed-accepted w b (startChange (stateOf w b) t p) y e z refl (state-kind w b t p (ok .thread) (y .sized)) (good-start (stateOf w b) t p (y .good) ok))
 
-  pub kind-ended : Holds (putKind w t 0) b (endState (stateOf w b) t)
+  pub ended-on : {n : ℕ} → n ≡ endRest (stateOf w b) t → n ≡ 0 → Changed w b (endChange (stateOf w b) t) n 0 (putKind w t 0) b
   unfolding endState
-  kind-ended = state-kind w b t 0 h z
+  ended-on e z =
+      let ok = end-ok (stateOf w b) t (sym e ∙ z) in
+      rw z (changed-accepted w b (endChange (stateOf w b) t) y e z refl (state-kind w b t 0 (ok .called .thread) (y .sized)) (good-end (stateOf w b) t (y .good) ok))

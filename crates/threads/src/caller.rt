@@ -2,9 +2,8 @@
 use tables::Bytes;
 use tables::Words;
 ghost use mathlib.Core.Path.{_≡_};
-ghost use Rattle.model.specs.Checks.{fits, admit};
-ghost use Rattle.tables.specs.Decode.{stateOf};
-ghost use Rattle.tables.specs.Contract.{memoryOf};
+ghost use Rattle.model.specs.Checks.{fits, called, admit};
+ghost use Rattle.tables.specs.Contract.{before, supplied};
 
 // Whether the lent buffers have the lengths of set-up.
 pub fn lengths_fit(
@@ -14,7 +13,7 @@ pub fn lengths_fit(
     scratch: &[u64],
     map: &[u64],
 ) -> bool
-    ensures { λ r. ⌜ r ≡ fits (stateOf (now (words .entry)) (now (bytes .entry))) (memoryOf (now (permanent .entry)) (now (scratch .entry)) (now (map .entry))) ⌝ }
+    ensures { λ r. ⌜ r ≡ fits (before words bytes) (supplied permanent scratch map) ⌝ }
 {
     let own = tables::lengths_at(words);
     if permanent.len() as u64 != own.permanent {
@@ -26,7 +25,20 @@ pub fn lengths_fit(
     map.len() as u64 == own.map
 }
 
-// Both, for every call but op 01, whose thread is not started yet.
+// Refusal 2, for every call but op 01, whose thread is not started yet.
+pub fn check_thread(words: &Words, bytes: &Bytes, t: u64) -> u64
+    ensures { λ r. ⌜ r ≡ called (before words bytes) t 0 ⌝ }
+{
+    if 16 <= t {
+        return 2; // above 15
+    }
+    if tables::kind_at(words, t as usize) == 0 {
+        return 2; // not started
+    }
+    0
+}
+
+// Both.
 pub fn check_caller(
     words: &Words,
     bytes: &Bytes,
@@ -35,17 +47,11 @@ pub fn check_caller(
     map: &[u64],
     t: u64,
 ) -> u64
-    ensures { λ r. ⌜ r ≡ admit (stateOf (now (words .entry)) (now (bytes .entry))) (memoryOf (now (permanent .entry)) (now (scratch .entry)) (now (map .entry))) t 0 ⌝ }
+    ensures { λ r. ⌜ r ≡ admit (before words bytes) (supplied permanent scratch map) t 0 ⌝ }
 {
     let fit = lengths_fit(words, bytes, permanent, scratch, map);
     if !fit {
         return 1;
     }
-    if 16 <= t {
-        return 2; // above 15
-    }
-    if tables::kind_at(words, t as usize) == 0 {
-        return 2; // not started
-    }
-    0
+    check_thread(words, bytes, t)
 }

@@ -5,13 +5,12 @@ use tables::Words;
 ghost use mathlib.Core.Path.{_≡_};
 ghost use Prim.Native.Nat.{_<_};
 ghost use Rattle.model.specs.State.{stackAt, current, innermost};
-ghost use Rattle.tables.specs.Decode.{stateOf};
-ghost use Rattle.tables.specs.Contract.{Ready};
+ghost use Rattle.tables.specs.Contract.{before, Usable};
 
 // The current area: the top entry, or the heap where the stack is empty.
 pub fn current_area(words: &Words, bytes: &Bytes, t: usize) -> u8
-    requires { ⌜ Ready (now words) (now bytes) × (t < 16) ⌝ }
-    ensures { λ r. ⌜ r ≡ current (stackAt (stateOf (now (words .entry)) (now (bytes .entry))) t) ⌝ }
+    requires { ⌜ Usable words bytes × (t < 16) ⌝ }
+    ensures { λ r. ⌜ r ≡ current (stackAt (before words bytes) t) ⌝ }
 {
     let len = tables::len_at(words, t) as usize;
     if len == 0 {
@@ -22,8 +21,8 @@ pub fn current_area(words: &Words, bytes: &Bytes, t: usize) -> u8
 
 // The innermost scope, or 0 where there is none: one look (source 004, Algorithm 6).
 pub fn innermost_scope(words: &Words, bytes: &Bytes, t: usize) -> u8
-    requires { ⌜ Ready (now words) (now bytes) × (t < 16) ⌝ }
-    ensures { λ r. ⌜ r ≡ innermost (stackAt (stateOf (now (words .entry)) (now (bytes .entry))) t) ⌝ }
+    requires { ⌜ Usable words bytes × (t < 16) ⌝ }
+    ensures { λ r. ⌜ r ≡ innermost (stackAt (before words bytes) t) ⌝ }
 {
     let entries = tables::len_at(words, t) as usize;
     if entries == 0 {

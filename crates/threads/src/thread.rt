@@ -4,41 +4,41 @@ use layout::stack::Answer;
 use tables::Bytes;
 use tables::Words;
 ghost use mathlib.Core.Path.{_≡_};
-ghost use Rattle.model.specs.Threads.{startStatus, endStatus};
+ghost use Rattle.model.specs.Threads.{startRest, startChange, endRest, endChange};
 ghost use Rattle.model.specs.Calls as calls;
-ghost use Rattle.tables.specs.Decode.{stateOf};
-ghost use Rattle.tables.specs.Contract.{memoryOf, Ready, Done};
+ghost use Rattle.tables.specs.Contract.{before, Usable, Changes, Answers};
 
 // ---- op 01, start thread
 
-fn check_start(
-    words: &Words,
-    bytes: &Bytes,
-    permanent: &[u64],
-    scratch: &[u64],
-    map: &[u64],
-    t: u64,
-    kind: u64,
-) -> u64
-    ensures { λ r. ⌜ r ≡ startStatus (stateOf (now (words .entry)) (now (bytes .entry))) (memoryOf (now (permanent .entry)) (now (scratch .entry)) (now (map .entry))) t kind ⌝ }
+fn check_start(words: &Words, bytes: &Bytes, t: u64, kind: u64) -> u64
+    ensures { λ r. ⌜ r ≡ startRest (before words bytes) t kind ⌝ }
 {
-    let fit = caller::lengths_fit(words, bytes, permanent, scratch, map);
-    if !fit {
-        return 1;
-    }
     if 16 <= t {
         return 2;
     }
-    if tables::kind_at(words, t as usize) != 0 {
+    let own = tables::kind_at(words, t as usize);
+    if own != 0 {
         return 3;
     }
     if kind == 0 {
-        return 4;
+        return 4; // no kind
     }
     if 3 < kind {
         return 4;
     }
     0
+}
+
+// After refusal 1.
+pub fn start_on(words: &mut Words, bytes: &Bytes, t: u64, kind: u64) -> Answer
+    requires { ⌜ Usable words bytes ⌝ }
+    ensures { λ r. ⌜ Changes r words bytes (startChange (before words bytes) t kind) ⌝ }
+{
+    let status = check_start(words, bytes, t, kind);
+    if status == 0 {
+        tables::put_kind(words, t as usize, kind);
+    }
+    Answer { status, value: 0 }
 }
 
 pub fn start(
@@ -50,29 +50,25 @@ pub fn start(
     t: u64,
     kind: u64,
 ) -> Answer
-    requires { ⌜ Ready (now words) (now bytes) ⌝ }
-    ensures { λ r. ⌜ Done (r .status) (r .value) (now (words .exit)) (now (bytes .entry)) (calls.outcomeOf (stateOf (now (words .entry)) (now (bytes .entry))) (memoryOf (now (permanent .entry)) (now (scratch .entry)) (now (map .entry))) (calls.start t kind)) ⌝ }
+    requires { ⌜ Usable words bytes ⌝ }
+    ensures { λ r. ⌜ Answers r words bytes permanent scratch map (calls.start t kind) ⌝ }
 {
-    let status = check_start(words, bytes, permanent, scratch, map, t, kind);
-    if status == 0 {
-        tables::put_kind(words, t as usize, kind);
+    let fit = caller::lengths_fit(words, bytes, permanent, scratch, map);
+    if !fit {
+        return Answer {
+            status: 1,
+            value: 0,
+        };
     }
-    Answer { status, value: 0 }
+    start_on(words, bytes, t, kind)
 }
 
 // ---- op 02, end thread
 
-fn check_end(
-    words: &Words,
-    bytes: &Bytes,
-    permanent: &[u64],
-    scratch: &[u64],
-    map: &[u64],
-    t: u64,
-) -> u64
-    ensures { λ r. ⌜ r ≡ endStatus (stateOf (now (words .entry)) (now (bytes .entry))) (memoryOf (now (permanent .entry)) (now (scratch .entry)) (now (map .entry))) t ⌝ }
+fn check_end(words: &Words, bytes: &Bytes, t: u64) -> u64
+    ensures { λ r. ⌜ r ≡ endRest (before words bytes) t ⌝ }
 {
-    let refusal = caller::check_caller(words, bytes, permanent, scratch, map, t);
+    let refusal = caller::check_thread(words, bytes, t);
     if refusal != 0 {
         return refusal;
     }
@@ -80,6 +76,21 @@ fn check_end(
         return 11;
     }
     0
+}
+
+// After refusal 1.
+pub fn end_on(words: &mut Words, bytes: &Bytes, t: u64) -> Answer
+    requires { ⌜ Usable words bytes ⌝ }
+    ensures { λ r. ⌜ Changes r words bytes (endChange (before words bytes) t) ⌝ }
+{
+    let refusal = check_end(words, bytes, t);
+    if refusal == 0 {
+        tables::put_kind(words, t as usize, 0);
+    }
+    Answer {
+        status: refusal,
+        value: 0,
+    }
 }
 
 pub fn end(
@@ -90,15 +101,15 @@ pub fn end(
     map: &[u64],
     t: u64,
 ) -> Answer
-    requires { ⌜ Ready (now words) (now bytes) ⌝ }
-    ensures { λ r. ⌜ Done (r .status) (r .value) (now (words .exit)) (now (bytes .entry)) (calls.outcomeOf (stateOf (now (words .entry)) (now (bytes .entry))) (memoryOf (now (permanent .entry)) (now (scratch .entry)) (now (map .entry))) (calls.end t)) ⌝ }
+    requires { ⌜ Usable words bytes ⌝ }
+    ensures { λ r. ⌜ Answers r words bytes permanent scratch map (calls.end t) ⌝ }
 {
-    let refusal = check_end(words, bytes, permanent, scratch, map, t);
-    if refusal == 0 {
-        tables::put_kind(words, t as usize, 0);
+    let fits = caller::lengths_fit(words, bytes, permanent, scratch, map);
+    if !fits {
+        return Answer {
+            status: 1,
+            value: 0,
+        };
     }
-    Answer {
-        status: refusal,
-        value: 0,
-    }
+    end_on(words, bytes, t)
 }

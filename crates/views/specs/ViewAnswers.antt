@@ -2,16 +2,16 @@
 -- Assumes nothing.
 use Prim.Native.Nat.{ℕ}
 use mathlib.Core.List.{List}
-use mathlib.Core.Path.{_≡_, refl}
+use mathlib.Core.Path.{_≡_, refl, ap}
 use lib.Dec.{eqb}
-use borrow.Author.Tests.{eqb-true}
+use borrow.Author.Tests.{eqb-true, eqb-false}
 use Rattle.layout.specs.Choice.{cases}
 use Rattle.model.specs.State.{Memory}
-use Rattle.model.specs.Data.{viewStatus, viewWords}
-use Rattle.model.specs.Calls.{view, viewed, outcomeOf}
+use Rattle.model.specs.Data.{viewRefusal, viewWords}
+use Rattle.model.specs.Calls.{view, viewStatus, outcomeOf}
 use Rattle.tables.specs.Decode.{stateOf}
 use Rattle.tables.specs.Contract.{Ready, plain, viewReply, Answered}
-use Rattle.tables.specs.AnsweredLaws.{memory-kept}
+use Rattle.tables.specs.AnsweredLaws.{answered-refused, answered-accepted}
 use Rattle.views.specs.declared.ViewPlace.{ViewPlace}
 use Rattle.views.specs.PlacedView.{viewPlaceOf, wordsThere}
 use Rattle.views.specs.ViewLaws.{there-is}
@@ -27,14 +27,12 @@ module _ (w b : List ℕ) (m : Memory) (t p : ℕ) (y : Ready w b) where
     pub place-shows : Answered w b m (view t p) (viewReply (wordsThere r m)) w b m
     place-shows = view-answered (there-is (stateOf w b) m t p r e)
 
-    pub place-tells : Answered w b m (viewed t p) (plain (r .status) 0) w b m
-    unfolding viewPlaceOf outcomeOf
-    place-tells = rw e (record { reply-is = reply-is; state-is = state-is; memory-is = memory-kept (stateOf w b) m (viewed t p) refl; ready = y })
-      where
-        reply-is : plain (viewStatus (stateOf w b) m t p) 0 ≡ outcomeOf (stateOf w b) m (viewed t p) .reply
-        reply-is = cases (eqb (viewStatus (stateOf w b) m t p) 0)
-            (λ k. rw (k, eqb-true (viewStatus (stateOf w b) m t p) 0 k) refl)
-            (λ k. rw k refl)
+    status-is : r .status ≡ viewRefusal (stateOf w b) m t p
+    unfolding viewPlaceOf
+    status-is = ap (λ (x : ViewPlace). x .status) e
 
-        state-is : stateOf w b ≡ outcomeOf (stateOf w b) m (viewed t p) .state
-        state-is = cases (eqb (viewStatus (stateOf w b) m t p) 0) (λ k. rw k refl) (λ k. rw k refl)
+    pub place-tells : Answered w b m (viewStatus t p) (plain (r .status) 0) w b m
+    place-tells = rw status-is (cases (eqb (viewRefusal (stateOf w b) m t p) 0)
+        (λ k. let z = eqb-true (viewRefusal (stateOf w b) m t p) 0 k in
+        rw z (answered-accepted w b m (viewStatus t p) y refl z refl refl (record { sized = y .sized; state = refl }) refl))
+        (λ k. answered-refused w b m (viewStatus t p) y refl (eqb-false (viewRefusal (stateOf w b) m t p) 0 k)))

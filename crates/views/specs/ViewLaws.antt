@@ -14,56 +14,51 @@ use Rattle.layout.specs.Choice.{pick, cases}
 use Rattle.layout.specs.Handle.{areaOf}
 use Rattle.layout.specs.Header.{dataOf}
 use Rattle.model.specs.State.{State, Memory, isScope}
-use Rattle.model.specs.Checks.{headerAt, useStatus}
+use Rattle.model.specs.Checks.{headerAt}
 use Rattle.model.specs.References.{placeAfter}
-use Rattle.model.specs.Data.{dataIndex, viewStatus, viewWords}
+use Rattle.model.specs.Data.{dataIndex, viewRefusal, viewWords}
 use Rattle.model.specs.Invariant.{Good}
-use Rattle.model.proofs.Accepted.{use-ok}
-use Rattle.objects.specs.declared.find.Object.{Object}
+use Rattle.model.proofs.Accepted.{admitted, use-ok}
+use Rattle.objects.specs.declared.find.Resolved.{Resolved}
 use Rattle.objects.specs.Found.{objectOf}
 use Rattle.objects.specs.Places.{Lies}
 use Rattle.views.specs.declared.ViewPlace.{ViewPlace}
-use Rattle.access.specs.Statuses.{area-is, words-is}
-use Rattle.access.specs.Effects.{place-is, index-is, object-lies}
-use Rattle.views.specs.PlacedView.{viewStore, viewFrom, viewLength, viewPlaceOf, PlacedView, wordsThere}
+use Rattle.objects.specs.Statuses.{area-is, data-words-is}
+use Rattle.objects.specs.Effects.{place-is, index-is, object-lies}
+use Rattle.views.specs.PlacedView.{viewStore, viewFrom, viewLength, viewPlaceOf, PlacedAt, wordsThere}
 
 module _ (s : State) (m : Memory) (t p : ℕ) where
-  pub view-is : useStatus s m t p 0 ≡ viewStatus s m t p
-  unfolding viewStatus
-  view-is = refl
-
   -- ---- what is shown, by numbers: of a refused call
 
-  pub place-refused : {n : ℕ} → n ≡ useStatus s m t p 0 → n ≢ 0 → record { status = n; store = 0; from = 0; len = 0 } ≡ viewPlaceOf s m t p
+  pub place-refused : {n : ℕ} → n ≡ viewRefusal s m t p → n ≢ 0 → record { status = n; store = 0; from = 0; len = 0 } ≡ viewPlaceOf s m t p
   unfolding viewPlaceOf viewStore viewFrom viewLength
-  place-refused e h = rw (ne-eqb (viewStatus s m t p) 0 (λ z. h (e ∙ view-is ∙ z)), ← view-is, ← e) refl
+  place-refused e h = rw (ne-eqb (viewRefusal s m t p) 0 (λ z. h (e ∙ z)), ← e) refl
 
   -- of an accepted one, with its object
-  module _ (z : useStatus s m t p 0 ≡ 0) (o : Object) (e : o ≡ objectOf s m p) where
-    accepted : viewStatus s m t p ≡ 0
-    accepted = sym view-is ∙ z
-
+  module _ (z : viewRefusal s m t p ≡ 0) (o : Resolved) (e : o ≡ objectOf s m p) where
     from-is : o .at + 1 + o .slots ≡ placeAfter s p (dataIndex s m p 0)
     from-is =
         let d : o .slots + 0 ≡ o .slots = omega arith in
         ap (λ (i : ℕ). o .at + 1 + i) (sym d ∙ index-is s m p o e 0) ∙ place-is s m p o e (dataIndex s m p 0)
 
-    pub place-accepted : record { status = 0; store = pick (isScope (o .area)) 1 0; from = o .at + 1 + o .slots; len = o .words } ≡ viewPlaceOf s m t p
+    pub place-accepted : record { status = 0; store = pick (isScope (o .area)) 1 0; from = o .at + 1 + o .slots; len = o .data_words } ≡ viewPlaceOf s m t p
     unfolding viewPlaceOf viewStore viewFrom viewLength
-    place-accepted = rw (accepted, area-is s m p o e, words-is s m p o e, from-is) refl
+    place-accepted = rw (z, area-is s m p o e, data-words-is s m p o e, from-is) refl
 
     pub object-in : Good s → Lies m o
-    object-in g = object-lies s m p o e g t (use-ok s m t p 0 z .0)
+    object-in g =
+        let a = admitted s m t _ z in
+        object-lies s m p o e g (a .0 .supplied) t (use-ok s m t p 0 (a .1) .0)
 
   -- ---- the words there; store 0 is the permanent one, any other the scratch
 
   words-there : take (viewLength s m t p) (drop (viewFrom s m t p) (viewStore s m t p (m .permanent) (m .scratch))) ≡ viewWords s m t p
   unfolding viewWords viewStore viewFrom viewLength
-  words-there = cases (eqb (viewStatus s m t p) 0) (λ k. rw k refl) (λ k. rw k refl)
+  words-there = cases (eqb (viewRefusal s m t p) 0) (λ k. rw k refl) (λ k. rw k refl)
 
   in-permanent : {A : Type 0} (x y : A) → _≡_ {A = ℕ} (viewStore s m t p 0 1) 0 → viewStore s m t p x y ≡ x
   unfolding viewStore
-  in-permanent x y = by (eqb (viewStatus s m t p) 0) (isScope (areaOf p))
+  in-permanent x y = by (eqb (viewRefusal s m t p) 0) (isScope (areaOf p))
     where
       by : (b c : Bool) → _≡_ {A = ℕ} (pick b (pick c 1 0) 0) 0 → pick b (pick c y x) x ≡ x
       by true true h = absurd (omega arith)
@@ -72,7 +67,7 @@ module _ (s : State) (m : Memory) (t p : ℕ) where
 
   in-scratch : {A : Type 0} (x y : A) → _≢_ {A = ℕ} (viewStore s m t p 0 1) 0 → viewStore s m t p x y ≡ y
   unfolding viewStore
-  in-scratch x y = by (eqb (viewStatus s m t p) 0) (isScope (areaOf p))
+  in-scratch x y = by (eqb (viewRefusal s m t p) 0) (isScope (areaOf p))
     where
       by : (b c : Bool) → _≢_ {A = ℕ} (pick b (pick c 1 0) 0) 0 → pick b (pick c y x) x ≡ y
       by true true h = refl
@@ -82,11 +77,11 @@ module _ (s : State) (m : Memory) (t p : ℕ) where
   room : Good s → (viewFrom s m t p + viewLength s m t p ≤ 16384)
       × (viewFrom s m t p + viewLength s m t p ≤ length (viewStore s m t p (m .permanent) (m .scratch)))
   unfolding viewStore viewFrom viewLength
-  room g = cases (eqb (viewStatus s m t p) 0)
-      (λ k. let z : useStatus s m t p 0 ≡ 0 = view-is ∙ eqb-true (viewStatus s m t p) 0 k in
-      let o : Object = objectOf s m p in
+  room g = cases (eqb (viewRefusal s m t p) 0)
+      (λ k. let z : viewRefusal s m t p ≡ 0 = eqb-true (viewRefusal s m t p) 0 k in
+      let o : Resolved = objectOf s m p in
       let l = object-in z o refl g in
-      rw (k, ← from-is z o refl, ← words-is s m p o refl, ← area-is s m p o refl) (omega (arith, l .low), omega (arith, l .inside)))
+      rw (k, ← from-is z o refl, ← data-words-is s m p o refl, ← area-is s m p o refl) (omega (arith, l .low), omega (arith, l .inside)))
       (λ k. rw k (omega arith, omega arith))
 
   -- a place that is answered, and the words of one store and where it begins
@@ -107,8 +102,8 @@ module _ (s : State) (m : Memory) (t p : ℕ) where
     ends l el g = omega (arith, room g .1, starts, counts, ap (length {A = ℕ}) el)
 
     module _ (l : List ℕ) (b permanent scratch : ℕ × ℕ) (el : viewStore s m t p (m .permanent) (m .scratch) ≡ l) (eb : viewStore s m t p permanent scratch ≡ b) where
-      viewed : (take (r .from + r .len - r .from) (drop (r .from) l) ≡ viewWords s m t p) × PlacedView (b .0, r .from * 8 + b .1) permanent scratch s m t p
-      viewed = (
+      there : (take (r .from + r .len - r .from) (drop (r .from) l) ≡ viewWords s m t p) × PlacedAt (b .0, r .from * 8 + b .1) permanent scratch s m t p
+      there = (
         rw (add-sub-cancel-left, starts, counts, ← el) words-there,
         record { store-is = ap (λ (x : ℕ × ℕ). x .0) (sym eb); place-is = rw (starts, ← eb) refl },
       )
@@ -122,9 +117,9 @@ module _ (s : State) (m : Memory) (t p : ℕ) where
 
       pub view-permanent : (permanent scratch : ℕ × ℕ)
           → (take (r .from + r .len - r .from) (drop (r .from) (m .permanent)) ≡ viewWords s m t p)
-          × PlacedView (permanent .0, r .from * 8 + permanent .1) permanent scratch s m t p
+          × PlacedAt (permanent .0, r .from * 8 + permanent .1) permanent scratch s m t p
       view-permanent permanent scratch =
-          viewed (m .permanent) permanent permanent scratch (in-permanent (m .permanent) (m .scratch) (sym store-is ∙ h)) (in-permanent permanent scratch (sym store-is ∙ h))
+          there (m .permanent) permanent permanent scratch (in-permanent (m .permanent) (m .scratch) (sym store-is ∙ h)) (in-permanent permanent scratch (sym store-is ∙ h))
 
     module _ (h : r .store ≢ 0) where
       pub scratch-end : Good s → r .from + r .len ≤ length (m .scratch)
@@ -132,9 +127,9 @@ module _ (s : State) (m : Memory) (t p : ℕ) where
 
       pub view-scratch : (permanent scratch : ℕ × ℕ)
           → (take (r .from + r .len - r .from) (drop (r .from) (m .scratch)) ≡ viewWords s m t p)
-          × PlacedView (scratch .0, r .from * 8 + scratch .1) permanent scratch s m t p
+          × PlacedAt (scratch .0, r .from * 8 + scratch .1) permanent scratch s m t p
       view-scratch permanent scratch =
-          viewed (m .scratch) scratch permanent scratch (in-scratch (m .permanent) (m .scratch) (λ z. h (store-is ∙ z))) (in-scratch permanent scratch (λ z. h (store-is ∙ z)))
+          there (m .scratch) scratch permanent scratch (in-scratch (m .permanent) (m .scratch) (λ z. h (store-is ∙ z))) (in-scratch permanent scratch (λ z. h (store-is ∙ z)))
 
     -- the words at the place are those that are shown
     pub there-is : wordsThere r m ≡ viewWords s m t p

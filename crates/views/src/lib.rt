@@ -1,18 +1,16 @@
 // An object's data shown as a part of the permanent or scratch store itself, and the call beside it
 // that yields the status.
-use access::Spot;
 use layout::stack::Answer;
+use objects::Checked;
 use tables::Bytes;
 use tables::Words;
 ghost use mathlib.Core.Path.{_≡_};
 ghost use Rattle.layout.specs.Choice.{pick};
 ghost use Rattle.model.specs.State.{isScope};
-ghost use Rattle.model.specs.Checks.{useStatus};
+ghost use Rattle.model.specs.Data.{viewRefusal};
 ghost use Rattle.model.specs.Calls as calls;
-ghost use Rattle.tables.specs.Decode.{stateOf};
-ghost use Rattle.tables.specs.Contract.{memoryOf, Ready, Told, viewReply, Replies};
-ghost use Rattle.objects.specs.Found.{objectOf};
-ghost use Rattle.access.specs.Spots.{spotOf};
+ghost use Rattle.tables.specs.Contract.{before, supplied, Usable, viewReply, Replies, Answers};
+ghost use Rattle.objects.specs.Resolving.{Checks};
 ghost use Rattle.views.specs.PlacedView.{viewPlaceOf, PlacedView};
 
 // Where a shown part lies, by numbers: the status of the call; store 0 for the permanent one, 1 for the scratch;
@@ -34,15 +32,15 @@ fn check_view(
     map: &[u64],
     t: u64,
     p: u64,
-) -> Spot
-    requires { ⌜ Ready (now words) (now bytes) ⌝ }
-    ensures { λ r. ⌜ r ≡ spotOf (objectOf (stateOf (now (words .entry)) (now (bytes .entry))) (memoryOf (now (permanent .entry)) (now (scratch .entry)) (now (map .entry))) p) (useStatus (stateOf (now (words .entry)) (now (bytes .entry))) (memoryOf (now (permanent .entry)) (now (scratch .entry)) (now (map .entry))) t p 0) ⌝ }
+) -> Checked
+    requires { ⌜ Usable words bytes ⌝ }
+    ensures { λ r. ⌜ Checks r words bytes permanent scratch map p (λ s m. viewRefusal s m t p) ⌝ }
 {
     let n = threads::check_caller(words, bytes, permanent, scratch, map, t);
     if n != 0 {
-        return Spot::Refused(n);
+        return Checked::Refused(n);
     }
-    access::check_object(words, bytes, permanent, scratch, map, t, p)
+    objects::check_object(words, bytes, permanent, scratch, map, t, p)
 }
 
 // The store that has an area's words.
@@ -65,21 +63,21 @@ pub fn view_place(
     t: u64,
     p: u64,
 ) -> ViewPlace
-    requires { ⌜ Ready (now words) (now bytes) ⌝ }
-    ensures { λ r. ⌜ r ≡ viewPlaceOf (stateOf (now (words .entry)) (now (bytes .entry))) (memoryOf (now (permanent .entry)) (now (scratch .entry)) (now (map .entry))) t p ⌝ }
+    requires { ⌜ Usable words bytes ⌝ }
+    ensures { λ r. ⌜ r ≡ viewPlaceOf (before words bytes) (supplied permanent scratch map) t p ⌝ }
 {
     match check_view(words, bytes, permanent, scratch, map, t, p) {
-        Spot::Refused(n) => ViewPlace {
+        Checked::Refused(n) => ViewPlace {
             status: n,
             store: 0,
             from: 0,
             len: 0,
         },
-        Spot::In(o) => ViewPlace {
+        Checked::Object(o) => ViewPlace {
             status: 0,
             store: store_of(o.area),
             from: o.at as u64 + 1 + o.slots,
-            len: o.words,
+            len: o.data_words,
         }
     }
 }
@@ -95,9 +93,9 @@ pub fn view<'a>(
     t: u64,
     p: u64,
 ) -> &'a [u64]
-    requires { ⌜ Ready (now words) (now bytes) ⌝ }
-    ensures { λ r. ⌜ Replies (viewReply (now r)) words bytes permanent scratch map (calls.view t p) ⌝ }
-    ensures { λ r. ⌜ PlacedView (r .ptr) (permanent .entry .ptr) (scratch .entry .ptr) (stateOf (now (words .entry)) (now (bytes .entry))) (memoryOf (now (permanent .entry)) (now (scratch .entry)) (now (map .entry))) t p ⌝ }
+    requires { ⌜ Usable words bytes ⌝ }
+    ensures answer { λ r. ⌜ Replies (viewReply (now r)) words bytes permanent scratch map (calls.view t p) ⌝ }
+    ensures place { λ r. ⌜ PlacedView (r .ptr) permanent scratch (before words bytes) (supplied permanent scratch map) t p ⌝ }
 {
     let place = view_place(words, bytes, permanent, scratch, map, t, p);
     let from = place.from as usize;
@@ -118,12 +116,12 @@ pub fn view_status(
     t: u64,
     p: u64,
 ) -> Answer
-    requires { ⌜ Ready (now words) (now bytes) ⌝ }
-    ensures { λ r. ⌜ Told (r .status) (r .value) (stateOf (now (words .entry)) (now (bytes .entry))) (calls.outcomeOf (stateOf (now (words .entry)) (now (bytes .entry))) (memoryOf (now (permanent .entry)) (now (scratch .entry)) (now (map .entry))) (calls.viewed t p)) ⌝ }
+    requires { ⌜ Usable words bytes ⌝ }
+    ensures { λ r. ⌜ Answers r words bytes permanent scratch map (calls.viewStatus t p) ⌝ }
 {
     match check_view(words, bytes, permanent, scratch, map, t, p) {
-        Spot::Refused(status) => Answer { status, value: 0 },
-        Spot::In(_) => Answer {
+        Checked::Refused(status) => Answer { status, value: 0 },
+        Checked::Object(_) => Answer {
             status: 0,
             value: 0,
         }

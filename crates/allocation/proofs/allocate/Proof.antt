@@ -1,30 +1,28 @@
 -- `allocate` meets its contract: a refused call leaves all as it was, an accepted one what apply_allocate leaves.
 use mathlib.Core.Path.{refl, sym, _∙_}
 use borrow.Author.Needs.{needs}
-use denote.Ref.{now}
 use Rattle.model.specs.State.{State, Memory}
 use Rattle.model.specs.Calls as calls
-use Rattle.tables.specs.Decode.{stateOf}
-use Rattle.tables.specs.Contract.{memoryOf}
-use Rattle.threads.specs.Outcomes.{done-refused, done-accepted, written-refused, written-accepted}
+use Rattle.model.proofs.Outcomes.{unfit-fitted, fit-fitted}
+use Rattle.tables.specs.Contract.{stateIn, memoryIn}
+use Rattle.tables.specs.AnsweredLaws.{answered-refused, answered-accepted}
+use Rattle.threads.specs.Caller.{unfit, fit}
+use native.Mathlib.Omega.{arith}
 use Rattle.allocation.proofs.allocate.Statement.{statement}
 use Rattle.allocation.proofs.allocate.Tie as tie
 
--- the entry, past the checks
-abbrev start : tie.After-check-allocate → tie.Start
+-- the entry, past the lengths
+abbrev start : tie.After-lengths-fit → tie.Start
 start c = c .before .before .before .before .before .before .before .before
 
-abbrev state : tie.After-check-allocate → State
-state c = stateOf (now (start c .args .words)) (now (start c .args .bytes))
+abbrev state : tie.After-lengths-fit → State
+state c = stateIn (start c .args .words) (start c .args .bytes)
 
-abbrev memory : tie.After-check-allocate → Memory
-memory c = memoryOf (now (start c .args .permanent)) (now (start c .args .scratch)) (now (start c .args .map))
+abbrev memory : tie.After-lengths-fit → Memory
+memory c = memoryIn (start c .args .permanent) (start c .args .scratch) (start c .args .map)
 
-abbrev call : tie.After-check-allocate → calls.Call
+abbrev call : tie.After-lengths-fit → calls.Call
 call c = calls.allocate (start c .args .t) (start c .args .slots) (start c .args .data-words)
-
-check-allocate-requires : tie.Need-check-allocate-requires
-check-allocate-requires c κs = search needs
 
 same-length : tie.Need-same-length
 same-length c = search needs
@@ -37,16 +35,8 @@ same-length-3 c = search needs
 
 returns : tie.Need-returns
 returns c =
-    let d = c .before in (
-      done-refused (now (start d .args .words)) (now (start d .args .bytes)) (memory d) (call d) (start d .pre) (d .check-allocate .ensures) (c .if1 .taken),
-      written-refused (state d) (memory d) (call d) (d .check-allocate .ensures) (c .if1 .taken),
-    )
-
-apply-allocate-requires : tie.Need-apply-allocate-requires
-apply-allocate-requires c κs =
-    let d = c .before .before .before .before .before in
-    let i = start d .args in
-    (start d .pre, sym (d .check-allocate .ensures) ∙ c .before .before .before .before .if1 .left)
+    let d = c .before in
+    answered-refused _ _ (memory d) (call d) (start d .pre) (sym (unfit-fitted _ _ (unfit _ _ (d .lengths-fit .ensures) (c .if1 .taken)) _)) (λ z. omega arith)
 
 same-length-4 : tie.Need-same-length-4
 same-length-4 c = search needs
@@ -59,24 +49,53 @@ same-length-6 c = search needs
 
 returns-2 : tie.Need-returns-2
 returns-2 c =
-    let d = c .before .before .before .before .before .before .before .before .before .before .before .before in
-    let e = sym (d .check-allocate .ensures) ∙ c .before .before .before .before .before .before .before .before .before .before .before .if1 .left in
-    let a = c .before .before .before .before .before .before .apply-allocate .ensures in (
-      done-accepted (now (start d .args .words)) (now (start d .args .bytes)) (memory d) (call d) (start d .pre) (sym e) refl (a .value-is) (a .holds),
-      written-accepted (state d) (memory d) (call d) (sym e) refl (a .memory-is),
-    )
+    let k = c .before in
+    let e = k .before .before in
+    let d = e .before in
+    answered-refused _ _ (memory d) (call d) (start d .pre) (k .check-allocate .ensures ∙ sym (fit-fitted _ _ (fit _ _ (d .lengths-fit .ensures) (e .if1 .left)) _)) (c .if2 .taken)
+
+apply-allocate-requires : tie.Need-apply-allocate-requires
+apply-allocate-requires c κs =
+    let k = c .before .before .before .before .before in
+    let e = k .before .before in
+    let d = e .before in
+    ((start d .pre, fit _ _ (d .lengths-fit .ensures) (e .if1 .left)), sym (k .check-allocate .ensures) ∙ c .before .before .before .before .if2 .left)
+
+same-length-7 : tie.Need-same-length-7
+same-length-7 c = search needs
+
+same-length-8 : tie.Need-same-length-8
+same-length-8 c = search needs
+
+same-length-9 : tie.Need-same-length-9
+same-length-9 c = search needs
+
+returns-3 : tie.Need-returns-3
+returns-3 c =
+    let k = c .before .before .before .before .before .before .before .before .before .before .before .before in
+    let e = k .before .before in
+    let d = e .before in
+    let z = sym (k .check-allocate .ensures) ∙ c .before .before .before .before .before .before .before .before .before .before .before .if2 .left in
+    let a = c .before .before .before .before .before .before .apply-allocate .ensures in
+    answered-accepted _ _ (memory d) (call d) (start d .pre) (sym (fit-fitted _ _ (fit _ _ (d .lengths-fit .ensures) (e .if1 .left)) _ ∙ z)) refl refl
+    (a .value-is) (a .holds) (a .memory-is)
 
 pub allocate-spec : {M : Type 1} → statement M
 allocate-spec =
     tie.close
     (tie.spec
-    check-allocate-requires
+    (λ c κs. search needs)
     same-length
     same-length-2
     same-length-3
     returns
-    apply-allocate-requires
+    (λ c κs. search needs)
     same-length-4
     same-length-5
     same-length-6
-    returns-2)
+    returns-2
+    apply-allocate-requires
+    same-length-7
+    same-length-8
+    same-length-9
+    returns-3)

@@ -6,9 +6,8 @@ use borrow.Author.Needs.{needs}
 use denote.Ref.{now}
 use Rattle.model.specs.State.{State, Memory, areaAt}
 use Rattle.model.proofs.Accepted.{AllocateOk, allocate-ok}
-use Rattle.tables.specs.Decode.{stateOf}
 use Rattle.tables.specs.Laws.{area-read}
-use Rattle.tables.specs.Contract.{memoryOf}
+use Rattle.tables.specs.Contract.{stateIn, memoryIn}
 use Rattle.allocation.specs.Allocation.{area-low, words-low, words-in, bit-sum, bits-in, bits-low, allocated}
 use Rattle.allocation.proofs.apply_allocate.Statement.{statement}
 use Rattle.allocation.proofs.apply_allocate.Tie as tie
@@ -18,25 +17,25 @@ abbrev start : tie.After-area-at → tie.Start
 start c = c .before .before .before .before .before .before .before
 
 abbrev state : tie.After-area-at → State
-state c = stateOf (now (start c .args .words)) (now (start c .args .bytes))
+state c = stateIn (start c .args .words) (start c .args .bytes)
 
 abbrev memory : tie.After-area-at → Memory
-memory c = memoryOf (now (start c .args .permanent)) (now (start c .args .scratch)) (now (start c .args .map))
+memory c = memoryIn (start c .args .permanent) (start c .args .scratch) (start c .args .map)
 
-ok : (c : tie.After-area-at) → AllocateOk (state c) (memory c) (start c .args .t) (start c .args .slots) (start c .args .data-words)
-ok c = allocate-ok (state c) (memory c) (start c .args .t) (start c .args .slots) (start c .args .data-words) (start c .pre .1)
+ok : (c : tie.After-area-at) → AllocateOk (state c) (start c .args .t) (start c .args .slots) (start c .args .data-words)
+ok c = allocate-ok (state c) (start c .args .t) (start c .args .slots) (start c .args .data-words) (start c .pre .1)
 
 low : (c : tie.After-area-at-arg) → c .before .current-area .result < 64
 low c =
     let i = c .before .before .before .before .before .before in
-    area-low (now (i .args .words)) (now (i .args .bytes)) _ _ _ _ (i .pre .0) (allocate-ok _ _ _ _ _ (i .pre .1)) _ (c .before .current-area .ensures)
+    area-low (now (i .args .words)) (now (i .args .bytes)) _ _ _ _ (i .pre .0 .0) (i .pre .0 .1) (allocate-ok _ _ _ _ (i .pre .1)) _ (c .before .current-area .ensures)
 
 area : (c : tie.After-area-at) → c .area-at .result ≡ areaAt (state c) (c .before .before .current-area .result)
 area c = c .area-at .ensures ∙ sym (area-read (now (start c .args .words)) (now (start c .args .bytes)) _ (low (c .before)))
 
 -- the object ends within the words that a handle can name
 fits : (c : tie.After-area-at) → c .area-at .result .start + c .area-at .result .used + 1 + start c .args .slots + start c .args .data-words ≤ 16384
-fits c = words-low (now (start c .args .words)) (now (start c .args .bytes)) (memory c) _ _ _ (start c .pre .0) (ok c) _ (c .before .before .current-area .ensures) _ (area c)
+fits c = words-low (now (start c .args .words)) (now (start c .args .bytes)) (memory c) _ _ _ (start c .pre .0 .0) (start c .pre .0 .1) (ok c) _ (c .before .before .current-area .ensures) _ (area c)
 
 -- the area as it was read, from what comes later: the area is written, its bit found, its bits and its words written
 abbrev read : tie.After-put-area → tie.After-area-at
@@ -51,7 +50,7 @@ marked c = c .before .before
 current-area-requires : tie.Need-current-area-requires
 current-area-requires c κs =
     let i = c .before .before .before .before in
-    (i .pre .0, allocate-ok _ _ _ _ _ (i .pre .1) .called .thread)
+    (i .pre .0 .0, allocate-ok _ _ _ _ (i .pre .1) .called .thread)
 
 cast-area : tie.Need-cast-area
 cast-area c = search needs
@@ -77,7 +76,7 @@ add-at c = omega (arith, fits (read (c .before)))
 bit-index-requires : tie.Need-bit-index-requires
 bit-index-requires c κs =
     let d = read (c .before) in
-    bit-sum (now (start d .args .words)) (now (start d .args .bytes)) (memory d) _ _ _ (start d .pre .0) (ok d) _ (d .before .before .current-area .ensures) _ (area d)
+    bit-sum (now (start d .args .words)) (now (start d .args .bytes)) (memory d) _ _ _ (start d .pre .0 .0) (start d .pre .0 .1) (ok d) _ (d .before .before .current-area .ensures) _ (area d)
 
 add-mark-object : tie.Need-add-mark-object
 add-mark-object c = omega (arith, fits (found (c .before)))
@@ -85,14 +84,14 @@ add-mark-object c = omega (arith, fits (found (c .before)))
 mark-object-requires : tie.Need-mark-object-requires
 mark-object-requires c κs =
     let d = found (c .before) in (
-      bits-in (now (start d .args .words)) (now (start d .args .bytes)) (memory d) _ _ _ (start d .pre .0) (ok d) _ (d .before .before .current-area .ensures) _ (area d) _ (c .before .bit-index .ensures),
-      bits-low (now (start d .args .words)) (now (start d .args .bytes)) (memory d) _ _ _ (start d .pre .0) (ok d) _ (d .before .before .current-area .ensures) _ (area d) _ (c .before .bit-index .ensures),
+      bits-in (now (start d .args .words)) (now (start d .args .bytes)) (memory d) _ _ _ (start d .pre .0 .0) (start d .pre .0 .1) (ok d) _ (d .before .before .current-area .ensures) _ (area d) _ (c .before .bit-index .ensures),
+      bits-low (now (start d .args .words)) (now (start d .args .bytes)) (memory d) _ _ _ (start d .pre .0 .0) (start d .pre .0 .1) (ok d) _ (d .before .before .current-area .ensures) _ (area d) _ (c .before .bit-index .ensures),
     )
 
-lay-object-requires : tie.Need-lay-object-requires
-lay-object-requires c κs =
+put-object-requires : tie.Need-put-object-requires
+put-object-requires c κs =
     let d = found (marked (c .before .before .before .before)) in (
-      words-in (now (start d .args .words)) (now (start d .args .bytes)) (memory d) _ _ _ (start d .pre .0) (ok d) _ (d .before .before .current-area .ensures) _ (area d),
+      words-in (now (start d .args .words)) (now (start d .args .bytes)) (memory d) _ _ _ (start d .pre .0 .0) (start d .pre .0 .1) (ok d) _ (d .before .before .current-area .ensures) _ (area d),
       fits d,
     )
 
@@ -116,8 +115,8 @@ returns c =
     let p = b .before .before in
     let d = read p in
     rw (p .put-area .ensures)
-    (allocated (now (start d .args .words)) (now (start d .args .bytes)) (memory d) _ _ _ (start d .pre .0) (ok d) _ (d .before .before .current-area .ensures) _ (area d) _ (b .bit-index .ensures)
-    (m .mark-object .ensures) (l .lay-object .ensures) (c .pack .ensures))
+    (allocated (now (start d .args .words)) (now (start d .args .bytes)) (memory d) _ _ _ (start d .pre .0 .0) (start d .pre .0 .1) (ok d) _ (d .before .before .current-area .ensures) _ (area d) _ (b .bit-index .ensures)
+    (m .mark-object .ensures) (l .put-object .ensures) (c .pack .ensures))
 
 pub apply-allocate-spec : {M : Type 1} → statement M
 apply-allocate-spec =
@@ -134,7 +133,7 @@ apply-allocate-spec =
     bit-index-requires
     add-mark-object
     mark-object-requires
-    lay-object-requires
+    put-object-requires
     pack-requires
     same-length
     same-length-2

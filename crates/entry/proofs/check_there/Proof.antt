@@ -5,25 +5,13 @@ use Rattle.entry.specs.Enter.{there-read}
 use Rattle.entry.proofs.check_there.Statement.{statement}
 use Rattle.entry.proofs.check_there.Tie as tie
 
-kind-at-requires : tie.Need-kind-at-requires
-kind-at-requires c κs = search needs
-
-len-at-requires : tie.Need-len-at-requires
-len-at-requires c κs = search needs
-
-area-at-requires : tie.Need-area-at-requires
-area-at-requires c κs = search needs
-
-check-entry-requires : tie.Need-check-entry-requires
-check-entry-requires c κs = search needs
-
 returns : tie.Need-returns
 returns c =
     let o = c .before .before .before .before in
     let a = o .args in
-    there-read (now (a .words)) (now (a .bytes)) (a .t) (a .q) (a .inner) (o .pre .0) (o .pre .1) (c .before .before .before .kind-at .ensures) (c .before .before .len-at .ensures) (c .before .area-at .ensures) (c .check-entry .ensures)
+    there-read (now (a .words)) (now (a .bytes)) (a .t) (a .q) (a .inner) (o .pre .0) (o .pre .1)
+    (c .before .before .before .has-right .ensures) (c .before .before .len-at .ensures) (c .before .area-at .ensures) (c .check-entry .ensures)
 
 pub check-there-spec : {M : Type 1} → statement M
 check-there-spec =
-    tie.close
-    (tie.spec kind-at-requires len-at-requires area-at-requires check-entry-requires returns)
+    tie.close (tie.spec (λ c κs. search needs) (λ c κs. search needs) (λ c κs. search needs) (λ c κs. search needs) returns)

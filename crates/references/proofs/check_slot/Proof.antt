@@ -1,14 +1,12 @@
 -- `check_slot` meets its contract: refused by check_object, past the end, or within it.
 use mathlib.Core.Path.{_≡_, sym, _∙_}
 use borrow.Author.Needs.{needs}
-use denote.Ref.{now}
 use Rattle.model.specs.State.{State, Memory}
-use Rattle.tables.specs.Decode.{stateOf}
-use Rattle.tables.specs.Contract.{memoryOf}
+use Rattle.tables.specs.Contract.{stateIn, memoryIn}
 use native.Mathlib.Omega.{arith}
-use Rattle.model.specs.Checks.{useStatus}
+use Rattle.model.specs.Checks.{useRest}
 use Rattle.objects.specs.Found.{objectOf}
-use Rattle.access.specs.Spots.{in-spot, refused-spot, spot-in, spot-refused}
+use Rattle.objects.specs.Checked.{object-checked, refused-checked, checked-object, checked-refused}
 use Rattle.references.specs.Statuses.{slot-not-used, slot-past, slot-in}
 use Rattle.references.proofs.check_slot.Statement.{statement}
 use Rattle.references.proofs.check_slot.Tie as tie
@@ -17,14 +15,14 @@ abbrev start : tie.After-check-object → tie.Start
 start c = c .before .before .before .before
 
 abbrev state : tie.After-check-object → State
-state c = stateOf (now (start c .args .words)) (now (start c .args .bytes))
+state c = stateIn (start c .args .words) (start c .args .bytes)
 
 abbrev memory : tie.After-check-object → Memory
-memory c = memoryOf (now (start c .args .permanent)) (now (start c .args .scratch)) (now (start c .args .map))
+memory c = memoryIn (start c .args .permanent) (start c .args .scratch) (start c .args .map)
 
 -- what check_object answered: an object
-used : (c : tie.After-known-told2) → (useStatus (state (c .before .before .before)) (memory (c .before .before .before)) (start (c .before .before .before) .args .t) (start (c .before .before .before) .args .p) 0 ≡ 0) × (c .before .o .given .0 .0 ≡ objectOf (state (c .before .before .before)) (memory (c .before .before .before)) (start (c .before .before .before) .args .p))
-used c = spot-in _ (sym (c .before .o .given .1) ∙ c .before .before .before .check-object .ensures)
+used : (c : tie.After-known-told2) → (useRest (state (c .before .before .before)) (memory (c .before .before .before)) (start (c .before .before .before) .args .t) (start (c .before .before .before) .args .p) 0 ≡ 0) × (c .before .o .given .0 .0 ≡ objectOf (state (c .before .before .before)) (memory (c .before .before .before)) (start (c .before .before .before) .args .p))
+used c = checked-object _ (sym (c .before .o .given .1) ∙ c .before .before .before .check-object .ensures)
 
 check-object-requires : tie.Need-check-object-requires
 check-object-requires c κs = search needs
@@ -38,17 +36,17 @@ enum-known-o c = search needs
 returns : tie.Need-returns
 returns c =
     let u = used (c .before .before) in
-    refused-spot _ (λ z. omega arith) (slot-past _ _ _ _ _ (u .0) _ (u .1) (c .if1 .taken))
+    refused-checked _ (λ z. omega arith) (slot-past _ _ _ _ _ (u .0) _ (u .1) (c .if1 .taken))
 
 returns-2 : tie.Need-returns-2
 returns-2 c =
-    let e = spot-refused _ (sym (c .before .n .given .1) ∙ c .before .before .before .check-object .ensures) in
-    refused-spot _ (e .1) (slot-not-used _ _ _ _ _ (e .0) (e .1))
+    let e = checked-refused _ (sym (c .before .n .given .1) ∙ c .before .before .before .check-object .ensures) in
+    refused-checked _ (e .1) (slot-not-used _ _ _ _ _ (e .0) (e .1))
 
 returns-3 : tie.Need-returns-3
 returns-3 c =
     let u = used (c .before .before) in
-    in-spot _ (u .1) (slot-in _ _ _ _ _ (u .0) _ (u .1) (c .if1 .left))
+    object-checked _ (u .1) (slot-in _ _ _ _ _ (u .0) _ (u .1) (c .if1 .left))
 
 pub check-slot-spec : {M : Type 1} → statement M
 check-slot-spec =

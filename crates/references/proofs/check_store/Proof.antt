@@ -1,21 +1,17 @@
 -- `check_store` meets its contract: one law for each way that it ends.
 use mathlib.Core.Path.{_≡_, sym, ap, _∙_}
 use borrow.Author.Needs.{needs}
-use denote.Ref.{now}
 use Rattle.model.specs.State.{State, Memory}
-use Rattle.model.proofs.Accepted.{Admitted, admitted}
-use Rattle.tables.specs.Decode.{stateOf}
-use Rattle.tables.specs.Contract.{memoryOf}
+use Rattle.tables.specs.Contract.{stateIn, memoryIn}
 use native.Mathlib.Omega.{arith}
 use borrow.Author.Tests.{not-true, not-false}
 use Prim.Native.Nat.{ℕ}
 use Rattle.layout.specs.Handle.{areaOf}
 use Rattle.layout.specs.HandleLaws.{area-lt}
-use Rattle.model.specs.References.{mayRefer, slotStatus}
-use Rattle.objects.specs.declared.find.Object.{Object}
+use Rattle.model.specs.References.{mayRefer, slotRest}
 use Rattle.objects.specs.Found.{objectOf}
-use Rattle.access.specs.Spots.{in-spot, refused-spot, spot-in, spot-refused}
-use Rattle.access.specs.Statuses.{area-is}
+use Rattle.objects.specs.Checked.{object-checked, refused-checked, checked-object, checked-refused}
+use Rattle.objects.specs.Statuses.{area-is}
 use Rattle.references.specs.Statuses.{store-no-slot, store-no-reference, store-forbidden, store-allowed}
 use Rattle.references.proofs.check_store.Statement.{statement}
 use Rattle.references.proofs.check_store.Tie as tie
@@ -24,20 +20,17 @@ abbrev start : tie.After-check-slot → tie.Start
 start c = c .before .before .before .before
 
 abbrev state : tie.After-check-slot → State
-state c = stateOf (now (start c .args .words)) (now (start c .args .bytes))
+state c = stateIn (start c .args .words) (start c .args .bytes)
 
 abbrev memory : tie.After-check-slot → Memory
-memory c = memoryOf (now (start c .args .permanent)) (now (start c .args .scratch)) (now (start c .args .map))
-
-called : (c : tie.After-check-slot) → Admitted (state c) (memory c) (start c .args .t)
-called c = admitted (state c) (memory c) (start c .args .t) 0 (start c .pre .1) .0
+memory c = memoryIn (start c .args .permanent) (start c .args .scratch) (start c .args .map)
 
 -- what check_slot answered: an object
 abbrev past : tie.After-known-told2 → tie.After-check-slot
 past c = c .before .before .before
 
-slot : (c : tie.After-known-told2) → (slotStatus (state (past c)) (memory (past c)) (start (past c) .args .t) (start (past c) .args .p) (start (past c) .args .q) 0 ≡ 0) × (c .before .o .given .0 .0 ≡ objectOf (state (past c)) (memory (past c)) (start (past c) .args .p))
-slot c = spot-in _ (sym (c .before .o .given .1) ∙ past c .check-slot .ensures)
+slot : (c : tie.After-known-told2) → (slotRest (state (past c)) (memory (past c)) (start (past c) .args .t) (start (past c) .args .p) (start (past c) .args .q) 0 ≡ 0) × (c .before .o .given .0 .0 ≡ objectOf (state (past c)) (memory (past c)) (start (past c) .args .p))
+slot c = checked-object _ (sym (c .before .o .given .1) ∙ past c .check-slot .ensures)
 
 area : (c : tie.After-known-told2) → c .before .o .given .0 .0 .area ≡ areaOf (start (past c) .args .p)
 area c = area-is (state (past c)) (memory (past c)) (start (past c) .args .p) _ (slot c .1)
@@ -58,7 +51,7 @@ enum-known-o : tie.Need-enum-known-o
 enum-known-o c = search needs
 
 check-reference-requires : tie.Need-check-reference-requires
-check-reference-requires c κs = (start (past c) .pre .0, called (past c) .thread, called (past c) .supplied)
+check-reference-requires c κs = start (past c) .pre
 
 area-requires : tie.Need-area-requires
 area-requires c κs = search needs
@@ -71,23 +64,23 @@ may-refer-requires c κs =
 returns : tie.Need-returns
 returns c =
     let d = c .before .before .before .before in
-    refused-spot _ (c .if1 .taken) (store-no-reference _ _ _ _ _ _ (slot d .0) (c .before .before .before .check-reference .ensures) (c .if1 .taken))
+    refused-checked _ (c .if1 .taken) (store-no-reference _ _ _ _ _ _ (slot d .0) (c .before .before .before .check-reference .ensures) (c .if1 .taken))
 
 returns-2 : tie.Need-returns-2
 returns-2 c =
     let d = c .before .before .before .before .before in
-    refused-spot _ (λ z. omega arith)
+    refused-checked _ (λ z. omega arith)
     (store-forbidden _ _ _ _ _ _ (slot d .0) (sym (c .before .before .before .before .check-reference .ensures) ∙ c .before .if1 .left) (rule (c .before .before) ∙ not-true (c .before .before .may-refer .result) (c .if2 .taken)))
 
 returns-3 : tie.Need-returns-3
 returns-3 c =
-    let e = spot-refused _ (sym (c .before .n .given .1) ∙ c .before .before .before .check-slot .ensures) in
-    refused-spot _ (e .1) (store-no-slot _ _ _ _ _ _ (e .0) (e .1))
+    let e = checked-refused _ (sym (c .before .n .given .1) ∙ c .before .before .before .check-slot .ensures) in
+    refused-checked _ (e .1) (store-no-slot _ _ _ _ _ _ (e .0) (e .1))
 
 returns-4 : tie.Need-returns-4
 returns-4 c =
     let d = c .before .before .before .before .before in
-    in-spot _ (slot d .1)
+    object-checked _ (slot d .1)
     (store-allowed _ _ _ _ _ _ (slot d .0) (sym (c .before .before .before .before .check-reference .ensures) ∙ c .before .if1 .left) (rule (c .before .before) ∙ not-false (c .before .before .may-refer .result) (c .if2 .left)))
 
 pub check-store-spec : {M : Type 1} → statement M

@@ -1,20 +1,18 @@
 -- `load` meets its contract: refused by the caller, by the slot, by the loaded word, or the word.
 use mathlib.Core.Path.{_≡_, refl, sym, _∙_}
 use borrow.Author.Needs.{needs}
-use denote.Ref.{now}
 use Rattle.model.specs.State.{State, Memory}
-use Rattle.tables.specs.Decode.{stateOf}
-use Rattle.tables.specs.Contract.{memoryOf}
+use Rattle.tables.specs.Contract.{stateIn, memoryIn}
 use native.Mathlib.Omega.{arith}
-use Rattle.model.specs.References.{slotStatus, loadStatus, wordAfter}
+use Rattle.model.specs.References.{slotRest, loadRest, wordAfter}
 use Rattle.model.specs.Calls as calls
 use Rattle.model.proofs.Accepted.{Admitted, SlotOk, slot-ok}
-use Rattle.threads.specs.Outcomes.{caller-admitted, told-refused, told-accepted}
+use Rattle.tables.specs.AnsweredLaws.{answered-refused, answered-accepted}
+use Rattle.threads.specs.Caller.{caller-refused, caller-admitted, admit-rest}
 use Rattle.objects.specs.Found.{objectOf}
-use Rattle.access.specs.Spots.{spot-in, spot-refused}
-use Rattle.references.specs.Statuses.{slot-not-used, load-no-slot, load-slot}
-use Rattle.access.specs.Statuses.{use-not-called}
-use Rattle.access.specs.Effects.{Room, slot-room, word-is}
+use Rattle.objects.specs.Checked.{checked-object, checked-refused}
+use Rattle.references.specs.Statuses.{load-no-slot, load-slot}
+use Rattle.objects.specs.Effects.{Room, slot-room, word-is}
 use Rattle.references.proofs.load.Statement.{statement}
 use Rattle.references.proofs.load.Tie as tie
 
@@ -23,10 +21,10 @@ abbrev start : tie.Else1 → tie.Start
 start c = c .before .before .before .before .before
 
 abbrev state : tie.Else1 → State
-state c = stateOf (now (start c .args .words)) (now (start c .args .bytes))
+state c = stateIn (start c .args .words) (start c .args .bytes)
 
 abbrev memory : tie.Else1 → Memory
-memory c = memoryOf (now (start c .args .permanent)) (now (start c .args .scratch)) (now (start c .args .map))
+memory c = memoryIn (start c .args .permanent) (start c .args .scratch) (start c .args .map)
 
 abbrev call : tie.Else1 → calls.Call
 call c = calls.load (start c .args .t) (start c .args .p) (start c .args .q)
@@ -41,14 +39,14 @@ answer c = c .before .before .before
 abbrev past : tie.After-known-told2 → tie.Else1
 past c = answer c .before
 
-slot : (c : tie.After-known-told2) → (slotStatus (state (past c)) (memory (past c)) (start (past c) .args .t) (start (past c) .args .p) (start (past c) .args .q) 0 ≡ 0) × (c .before .o .given .0 .0 ≡ objectOf (state (past c)) (memory (past c)) (start (past c) .args .p))
-slot c = spot-in _ (sym (c .before .o .given .1) ∙ answer c .check-slot .ensures)
+slot : (c : tie.After-known-told2) → (slotRest (state (past c)) (memory (past c)) (start (past c) .args .t) (start (past c) .args .p) (start (past c) .args .q) 0 ≡ 0) × (c .before .o .given .0 .0 ≡ objectOf (state (past c)) (memory (past c)) (start (past c) .args .p))
+slot c = checked-object _ (sym (c .before .o .given .1) ∙ answer c .check-slot .ensures)
 
 slot-is : (c : tie.After-known-told2) → SlotOk (state (past c)) (memory (past c)) (start (past c) .args .t) (start (past c) .args .p) (start (past c) .args .q)
 slot-is c = slot-ok (state (past c)) (memory (past c)) (start (past c) .args .t) (start (past c) .args .p) (start (past c) .args .q) 0 (slot c .0) .0
 
 room : (c : tie.After-known-told2) → Room (memory (past c)) (c .before .o .given .0 .0) (start (past c) .args .q)
-room c = slot-room (state (past c)) (memory (past c)) (start (past c) .args .p) _ (slot c .1) (start (past c) .pre .good) (start (past c) .args .t) (start (past c) .args .q) (slot-is c)
+room c = slot-room (state (past c)) (memory (past c)) (start (past c) .args .p) _ (slot c .1) (start (past c) .pre .good) (called (past c) .supplied) (start (past c) .args .t) (start (past c) .args .q) (slot-is c)
 
 -- the word that the slot has, and the status
 word : (c : tie.After-word-at) → c .word-at .result ≡ wordAfter (state (past (c .before .before))) (memory (past (c .before .before))) (start (past (c .before .before)) .args .p) (start (past (c .before .before)) .args .q)
@@ -56,7 +54,7 @@ word c =
     let d = past (c .before .before) in
     c .word-at .ensures ∙ word-is (state d) (memory d) (start d .args .p) _ (slot (c .before .before) .1) (start d .args .q)
 
-status : (c : tie.After-check-reference) → c .check-reference .result ≡ loadStatus (state (past (c .before .before .before))) (memory (past (c .before .before .before))) (start (past (c .before .before .before)) .args .t) (start (past (c .before .before .before)) .args .p) (start (past (c .before .before .before)) .args .q)
+status : (c : tie.After-check-reference) → c .check-reference .result ≡ loadRest (state (past (c .before .before .before))) (memory (past (c .before .before .before))) (start (past (c .before .before .before)) .args .t) (start (past (c .before .before .before)) .args .p) (start (past (c .before .before .before)) .args .q)
 status c =
     let d = past (c .before .before .before) in
     load-slot (state d) (memory d) (start d .args .t) (start d .args .p) (start d .args .q) (slot (c .before .before .before) .0) (word (c .before)) (c .check-reference .ensures)
@@ -66,12 +64,11 @@ check-caller-requires c κs = search needs
 
 returns : tie.Need-returns
 returns c =
-    let h = c .if1 .taken in
-    let e = load-no-slot _ _ _ _ _ (slot-not-used _ _ _ _ _ (use-not-called _ _ _ _ (c .before .check-caller .ensures) h) h) h in
-    told-refused _ _ (calls.load _ _ _) e h
+    let o = c .before .before .before .before .before in
+    answered-refused _ _ _ (calls.load _ _ _) (o .pre) (caller-refused _ _ _ (c .before .check-caller .ensures) (c .if1 .taken) _) (c .if1 .taken)
 
 check-slot-requires : tie.Need-check-slot-requires
-check-slot-requires c κs = (start c .pre, sym (c .before .check-caller .ensures) ∙ c .if1 .left)
+check-slot-requires c κs = (start c .pre, called c)
 
 enum-known-status : tie.Need-enum-known-status
 enum-known-status c = search needs
@@ -91,24 +88,26 @@ word-at-requires c κs = room (c .before) .inside
 check-reference-requires : tie.Need-check-reference-requires
 check-reference-requires c κs =
     let d = past (c .before .before) in
-    (start d .pre, called d .thread, called d .supplied)
+    (start d .pre, called d)
 
 returns-2 : tie.Need-returns-2
 returns-2 c =
     let d = past (c .before .before .before .before) in
-    told-refused (state d) (memory d) (call d) (status (c .before)) (c .if2 .taken)
+    answered-refused _ _ (memory d) (call d) (start d .pre) (status (c .before) ∙ sym (admit-rest _ _ _ (called d) _)) (c .if2 .taken)
 
 returns-3 : tie.Need-returns-3
 returns-3 c =
     let a = c .before .before .before in
     let d = a .before in
-    let e = spot-refused _ (sym (c .before .status .given .1) ∙ a .check-slot .ensures) in
-    told-refused (state d) (memory d) (call d) (load-no-slot _ _ _ _ _ (e .0) (e .1)) (e .1)
+    let e = checked-refused _ (sym (c .before .status .given .1) ∙ a .check-slot .ensures) in
+    answered-refused _ _ (memory d) (call d) (start d .pre) (load-no-slot _ _ _ _ _ (e .0) (e .1) ∙ sym (admit-rest _ _ _ (called d) _)) (e .1)
 
 returns-4 : tie.Need-returns-4
 returns-4 c =
     let d = past (c .before .before .before .before) in
-    told-accepted (state d) (memory d) (call d) (status (c .before)) (c .if2 .left) (word (c .before .before)) refl
+    let y = start d .pre in
+    rw (c .if2 .left) (answered-accepted _ _ (memory d) (call d) y (status (c .before) ∙ sym (admit-rest _ _ _ (called d) _)) (c .if2 .left) refl
+    (word (c .before .before)) (record { sized = y .sized; state = refl }) refl)
 
 pub load-spec : {M : Type 1} → statement M
 load-spec =

@@ -4,7 +4,7 @@ use native.Mathlib.Omega.{arith}
 use borrow.Author.Needs.{needs}
 use denote.Ref.{now}
 use Rattle.model.specs.declared.Area.{Area}
-use Rattle.tables.specs.Decode.{stateOf}
+use Rattle.tables.specs.Contract.{stateIn}
 use Rattle.tables.specs.Laws.{area-read}
 use Rattle.model.proofs.Bounds.{depth-bound}
 use Rattle.references.specs.Statuses.{may-plain, may-deeper, may-look}
@@ -31,7 +31,7 @@ cast-row-holds c = search needs
 row-holds-requires : tie.Need-row-holds-requires
 row-holds-requires c κs =
     let i = c .before .before .before .before in
-    let d = depth-bound (stateOf (now (i .args .words)) (now (i .args .bytes))) (i .pre .0 .good) (i .args .target) (i .pre .2) in
+    let d = depth-bound (stateIn (i .args .words) (i .args .bytes)) (i .pre .0 .good) (i .args .target) (i .pre .2) in
     let e = ap (λ (x : Area). x .depth) (c .before .before .area-at .ensures ∙ sym (area-read (now (i .args .words)) (now (i .args .bytes)) (i .args .target) (i .pre .2))) in
     (i .pre .1, omega (arith, d, e))
 

@@ -1,8 +1,10 @@
 -- `check_view` meets its contract: refused by the caller, or what check_object answers.
-use mathlib.Core.Path.{sym, _∙_}
+use mathlib.Core.Path.{sym, ap, _∙_}
 use borrow.Author.Needs.{needs}
-use Rattle.access.specs.Spots.{refused-spot}
-use Rattle.access.specs.Statuses.{use-not-called}
+use Rattle.model.proofs.Accepted.{Admitted}
+use Rattle.tables.specs.Contract.{stateIn, memoryIn}
+use Rattle.objects.specs.Checked.{checkedOf, refused-checked}
+use Rattle.threads.specs.Caller.{caller-refused, caller-admitted, admit-rest}
 use Rattle.views.proofs.check_view.Statement.{statement}
 use Rattle.views.proofs.check_view.Tie as tie
 
@@ -14,13 +16,16 @@ check-caller-requires : tie.Need-check-caller-requires
 check-caller-requires c κs = search needs
 
 returns : tie.Need-returns
-returns c = refused-spot _ (c .if1 .taken) (use-not-called _ _ _ _ (c .before .check-caller .ensures) (c .if1 .taken))
+returns c = refused-checked _ (c .if1 .taken) (caller-refused _ _ _ (c .before .check-caller .ensures) (c .if1 .taken) _)
+
+called : (c : tie.Else1) → Admitted (stateIn (start c .args .words) (start c .args .bytes)) (memoryIn (start c .args .permanent) (start c .args .scratch) (start c .args .map)) (start c .args .t)
+called c = caller-admitted _ _ _ (c .before .check-caller .ensures) (c .if1 .left)
 
 check-object-requires : tie.Need-check-object-requires
-check-object-requires c κs = (start c .pre, sym (c .before .check-caller .ensures) ∙ c .if1 .left)
+check-object-requires c κs = (start c .pre, called c)
 
 returns-2 : tie.Need-returns-2
-returns-2 c = c .check-object .ensures
+returns-2 c = c .check-object .ensures ∙ ap (checkedOf _) (sym (admit-rest _ _ _ (called (c .before)) _))
 
 pub check-view-spec : {M : Type 1} → statement M
 check-view-spec = tie.close (tie.spec check-caller-requires returns check-object-requires returns-2)

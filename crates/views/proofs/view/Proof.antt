@@ -1,9 +1,7 @@
 -- `view` meets its contract: the part is the one that view_place tells.
 use borrow.Author.Needs.{needs}
-use denote.Ref.{now}
 use Rattle.model.specs.State.{State, Memory}
-use Rattle.tables.specs.Decode.{stateOf}
-use Rattle.tables.specs.Contract.{memoryOf}
+use Rattle.tables.specs.Contract.{stateIn, memoryIn}
 use Prim.Native.Nat.{_+_, _≤_}
 use native.Mathlib.Omega.{arith}
 use Rattle.views.specs.ViewLaws.{place-low, permanent-end, scratch-end, view-permanent, view-scratch}
@@ -15,10 +13,10 @@ abbrev start : tie.After-view-place → tie.Start
 start c = c .before .before .before .before
 
 abbrev state : tie.After-view-place → State
-state c = stateOf (now (start c .args .words)) (now (start c .args .bytes))
+state c = stateIn (start c .args .words) (start c .args .bytes)
 
 abbrev memory : tie.After-view-place → Memory
-memory c = memoryOf (now (start c .args .permanent)) (now (start c .args .scratch)) (now (start c .args .map))
+memory c = memoryIn (start c .args .permanent) (start c .args .scratch) (start c .args .map)
 
 low : (c : tie.After-view-place) → c .view-place .result .from + c .view-place .result .len ≤ 16384
 low c = place-low (state c) (memory c) (start c .args .t) (start c .args .p) _ (c .view-place .ensures) (start c .pre .good)

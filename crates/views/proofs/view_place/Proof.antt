@@ -1,15 +1,13 @@
 -- `view_place` meets its contract: the place of each case of what check_view answers.
 use mathlib.Core.Path.{_≡_, sym, _∙_}
 use borrow.Author.Needs.{needs}
-use denote.Ref.{now}
 use Rattle.model.specs.State.{State, Memory}
-use Rattle.tables.specs.Decode.{stateOf}
-use Rattle.tables.specs.Contract.{memoryOf}
+use Rattle.tables.specs.Contract.{stateIn, memoryIn}
 use native.Mathlib.Omega.{arith}
-use Rattle.model.specs.Checks.{useStatus}
+use Rattle.model.specs.Data.{viewRefusal}
 use Rattle.objects.specs.Found.{objectOf}
 use Rattle.objects.specs.Places.{Lies}
-use Rattle.access.specs.Spots.{spot-in, spot-refused}
+use Rattle.objects.specs.Checked.{checked-object, checked-refused}
 use Rattle.views.specs.ViewLaws.{place-refused, place-accepted, object-in}
 use Rattle.views.proofs.view_place.Statement.{statement}
 use Rattle.views.proofs.view_place.Tie as tie
@@ -18,17 +16,17 @@ abbrev start : tie.After-check-view → tie.Start
 start c = c .before .before .before .before
 
 abbrev state : tie.After-check-view → State
-state c = stateOf (now (start c .args .words)) (now (start c .args .bytes))
+state c = stateIn (start c .args .words) (start c .args .bytes)
 
 abbrev memory : tie.After-check-view → Memory
-memory c = memoryOf (now (start c .args .permanent)) (now (start c .args .scratch)) (now (start c .args .map))
+memory c = memoryIn (start c .args .permanent) (start c .args .scratch) (start c .args .map)
 
 -- what check_view answered: an object
 abbrev past : tie.After-o → tie.After-check-view
 past c = c .before .before
 
-used : (c : tie.After-o) → (useStatus (state (past c)) (memory (past c)) (start (past c) .args .t) (start (past c) .args .p) 0 ≡ 0) × (c .o .given .0 .0 ≡ objectOf (state (past c)) (memory (past c)) (start (past c) .args .p))
-used c = spot-in _ (sym (c .o .given .1) ∙ past c .check-view .ensures)
+used : (c : tie.After-o) → (viewRefusal (state (past c)) (memory (past c)) (start (past c) .args .t) (start (past c) .args .p) ≡ 0) × (c .o .given .0 .0 ≡ objectOf (state (past c)) (memory (past c)) (start (past c) .args .p))
+used c = checked-object _ (sym (c .o .given .1) ∙ past c .check-view .ensures)
 
 lies : (c : tie.After-o) → Lies (memory (past c)) (c .o .given .0 .0)
 lies c = object-in (state (past c)) (memory (past c)) (start (past c) .args .t) (start (past c) .args .p) (used c .0) _ (used c .1) (start (past c) .pre .good)
@@ -54,7 +52,7 @@ add-t15 c = omega (arith, lies (c .before .before .before) .low)
 returns : tie.Need-returns
 returns c =
     let d = c .before .before .before in
-    let e = spot-refused _ (sym (c .before .n .given .1) ∙ d .check-view .ensures) in
+    let e = checked-refused _ (sym (c .before .n .given .1) ∙ d .check-view .ensures) in
     place-refused (state d) (memory d) (start d .args .t) (start d .args .p) (e .0) (e .1)
 
 returns-2 : tie.Need-returns-2

@@ -6,10 +6,9 @@ use borrow.Author.Needs.{needs}
 use denote.Ref.{now}
 use Rattle.layout.specs.HandleLaws.{area-lt}
 use Rattle.model.specs.State.{State, Memory}
-use Rattle.tables.specs.Decode.{stateOf}
 use Rattle.tables.specs.Laws.{area-read}
-use Rattle.tables.specs.Contract.{memoryOf}
-use Rattle.objects.specs.Places.{numbered}
+use Rattle.tables.specs.Contract.{stateIn, memoryIn}
+use Rattle.objects.specs.Places.{refused-as}
 use Rattle.objects.specs.Steps.{Read, offset-low, other-generation, past-used, word-low, bit-low, word-in, bit-in, no-bit, ends}
 use Rattle.objects.proofs.find.lookup.Statement.{statement}
 use Rattle.objects.proofs.find.lookup.Tie as tie
@@ -34,10 +33,10 @@ abbrev start : tie.After-area-at → tie.Start
 start c = c .before .before .before .before .before .before
 
 abbrev state : tie.After-area-at → State
-state c = stateOf (now (start c .args .words)) (now (start c .args .bytes))
+state c = stateIn (start c .args .words) (start c .args .bytes)
 
 abbrev memory : tie.After-area-at → Memory
-memory c = memoryOf (now (start c .args .permanent)) (now (start c .args .scratch)) (now (start c .args .map))
+memory c = memoryIn (start c .args .permanent) (start c .args .scratch) (start c .args .map)
 
 read : (c : tie.After-area-at) → Read (now (start c .args .words)) (now (start c .args .bytes)) (memory c) (start c .args .handle) (c .before .before .area .result) (c .before .offset .result) (c .area-at .result)
 read c = record {
@@ -51,12 +50,12 @@ read c = record {
 returns : tie.Need-returns
 returns c =
     let d = c .before .before .before in
-    numbered (state d) (memory d) (start d .args .handle) (start d .pre .0 .good) (other-generation _ _ _ _ _ _ _ (read d) _ (c .before .before .generation .ensures) (c .if1 .taken))
+    refused-as (state d) (memory d) (start d .args .handle) (start d .pre .0 .good) (other-generation _ _ _ _ _ _ _ (read d) _ (c .before .before .generation .ensures) (c .if1 .taken))
 
 returns-2 : tie.Need-returns-2
 returns-2 c =
     let d = c .before .before .before .before .before in
-    numbered (state d) (memory d) (start d .args .handle) (start d .pre .0 .good) (past-used _ _ _ _ _ _ _ (read d) (c .if2 .taken))
+    refused-as (state d) (memory d) (start d .args .handle) (start d .pre .0 .good) (past-used _ _ _ _ _ _ _ (read d) (c .if2 .taken))
 
 add-at : tie.Need-add-at
 add-at c = omega (arith, word-low _ _ _ _ _ _ _ (read (c .before .before .before .before .before .before)) (c .before .if2 .left))
@@ -70,7 +69,7 @@ bit-requires c κs = bit-in _ _ _ _ _ _ _ (read (c .before .before .before .befo
 returns-3 : tie.Need-returns-3
 returns-3 c =
     let d = c .before .before .before .before .before .before .before .before .before in
-    numbered (state d) (memory d) (start d .args .handle) (start d .pre .0 .good)
+    refused-as (state d) (memory d) (start d .args .handle) (start d .pre .0 .good)
     (no-bit _ _ _ _ _ _ _ (read d) (c .before .before .before .before .if2 .left) _ (c .before .before .bit-index .ensures)
     (sym (c .before .bit .ensures) ∙ c .if3 .taken))
 
@@ -84,7 +83,7 @@ returns-4 : tie.Need-returns-4
 returns-4 c =
     let d = c .before .before .before .before .before .before .before .before .before .before .before in
     let r = read d in
-    numbered (state d) (memory d) (start d .args .handle) (start d .pre .0 .good)
+    refused-as (state d) (memory d) (start d .args .handle) (start d .pre .0 .good)
     (c .whole .ensures
     ∙ rw (c .before .word-at .ensures)
     (ends _ _ _ _ _ _ _ r (c .before .before .before .before .before .before .if2 .left) _ (c .before .before .before .before .bit-index .ensures)

@@ -2,42 +2,31 @@
 use denote.Ref.{now}
 use mathlib.Core.Path.{sym, _∙_}
 use borrow.Author.Needs.{needs}
-use Rattle.model.proofs.Accepted.{Admitted}
+use Rattle.model.proofs.Accepted.{Called}
 use Rattle.tables.specs.Laws.{len-read}
-use Rattle.tables.specs.Decode.{stateOf}
-use Rattle.tables.specs.Contract.{memoryOf}
-use Rattle.threads.specs.Outcomes.{caller-admitted}
+use Rattle.tables.specs.Contract.{stateIn}
+use Rattle.threads.specs.Caller.{thread-called}
 use Rattle.threads.specs.Thread.{end-not-called, end-entries, end-accepted}
 use Rattle.threads.proofs.thread.check_end.Statement.{statement}
 use Rattle.threads.proofs.thread.check_end.Tie as tie
 
-check-caller-requires : tie.Need-check-caller-requires
-check-caller-requires c κs = search needs
-
 returns : tie.Need-returns
-returns c = end-not-called _ _ _ (c .before .check-caller .ensures) (c .if1 .taken)
+returns c = end-not-called _ _ (c .before .check-thread .ensures) (c .if1 .taken)
 
 len-at-requires : tie.Need-len-at-requires
-len-at-requires c κs =
-    let a = c .before .before .before .before .before .args in
-    (caller-admitted (stateOf (now (a .words)) (now (a .bytes))) (memoryOf (now (a .permanent)) (now (a .scratch)) (now (a .map))) (a .t) (c .before .check-caller .ensures) (c .if1 .left)) .thread
+len-at-requires c κs = thread-called _ _ (c .before .check-thread .ensures) (c .if1 .left) .thread
 
 returns-2 : tie.Need-returns-2
 returns-2 c =
-    let a = c .before .before .before .before .before .before .before .args in
-    let s = stateOf (now (a .words)) (now (a .bytes)) in
-    let m = memoryOf (now (a .permanent)) (now (a .scratch)) (now (a .map)) in
-    let k : Admitted s m (a .t) = (caller-admitted s m (a .t) (c .before .before .before .check-caller .ensures) (c .before .before .if1 .left)) in
-    end-entries s m (a .t) k (rw (len-read (now (a .words)) (now (a .bytes)) (a .t) (k .thread) ∙ sym (c .before .len-at .ensures)) (search needs))
+    let a = c .before .before .before .before .args in
+    let k : Called (stateIn (a .words) (a .bytes)) (a .t) = thread-called _ _ (c .before .before .before .check-thread .ensures) (c .before .before .if1 .left) in
+    end-entries _ _ k (rw (len-read (now (a .words)) (now (a .bytes)) (a .t) (k .thread) ∙ sym (c .before .len-at .ensures)) (search needs))
 
 returns-3 : tie.Need-returns-3
 returns-3 c =
-    let a = c .before .before .before .before .before .before .before .args in
-    let s = stateOf (now (a .words)) (now (a .bytes)) in
-    let m = memoryOf (now (a .permanent)) (now (a .scratch)) (now (a .map)) in
-    let k : Admitted s m (a .t) = (caller-admitted s m (a .t) (c .before .before .before .check-caller .ensures) (c .before .before .if1 .left)) in
-    end-accepted s m (a .t) k (rw (len-read (now (a .words)) (now (a .bytes)) (a .t) (k .thread) ∙ sym (c .before .len-at .ensures)) (search needs))
+    let a = c .before .before .before .before .args in
+    let k : Called (stateIn (a .words) (a .bytes)) (a .t) = thread-called _ _ (c .before .before .before .check-thread .ensures) (c .before .before .if1 .left) in
+    end-accepted _ _ k (rw (len-read (now (a .words)) (now (a .bytes)) (a .t) (k .thread) ∙ sym (c .before .len-at .ensures)) (search needs))
 
 pub check-end-spec : {M : Type 1} → statement M
-check-end-spec =
-    tie.close (tie.spec check-caller-requires returns len-at-requires returns-2 returns-3)
+check-end-spec = tie.close (tie.spec (search needs) returns len-at-requires returns-2 returns-3)

@@ -3,74 +3,37 @@ use denote.Ref.{now}
 use mathlib.Core.Path.{sym, _∙_}
 use borrow.Author.Needs.{needs}
 use Rattle.tables.specs.Laws.{kind-read}
-use Rattle.tables.specs.Decode.{stateOf}
-use Rattle.tables.specs.Contract.{memoryOf}
-use Rattle.threads.specs.Thread.{start-not-supplied, start-no-thread, start-started, start-no-kind, start-other-kind, start-accepted}
-use Rattle.threads.specs.Caller.{unfit, fit}
+use Rattle.tables.specs.Contract.{stateIn}
+use Rattle.threads.specs.Thread.{start-no-thread, start-started, start-no-kind, start-other-kind, start-accepted}
 use Rattle.threads.proofs.thread.check_start.Statement.{statement}
 use Rattle.threads.proofs.thread.check_start.Tie as tie
 
-lengths-fit-requires : tie.Need-lengths-fit-requires
-lengths-fit-requires c κs = search needs
-
 returns : tie.Need-returns
-returns c =
-    let a = c .before .before .before .before .before .args in
-    let s = stateOf (now (a .words)) (now (a .bytes)) in
-    let m = memoryOf (now (a .permanent)) (now (a .scratch)) (now (a .map)) in
-    start-not-supplied s m (a .t) (a .kind) (unfit s m (c .before .lengths-fit .ensures) (c .if1 .taken))
+returns c = start-no-thread _ _ _ (search needs)
 
 returns-2 : tie.Need-returns-2
 returns-2 c =
-    let a = c .before .before .before .before .before .before .args in
-    let s = stateOf (now (a .words)) (now (a .bytes)) in
-    let m = memoryOf (now (a .permanent)) (now (a .scratch)) (now (a .map)) in
-    start-no-thread s m (a .t) (a .kind) (fit s m (c .before .before .lengths-fit .ensures) (c .before .if1 .left)) (search needs)
-
-kind-at-requires : tie.Need-kind-at-requires
-kind-at-requires c κs = search needs
+    let a = c .before .before .before .args in
+    let k = kind-read (now (a .words)) (now (a .bytes)) (a .t) (search needs) ∙ sym (c .before .kind-at .ensures) in
+    start-started (stateIn (a .words) (a .bytes)) (a .t) (a .kind) (search needs) (λ z. c .if2 .taken (sym k ∙ z))
 
 returns-3 : tie.Need-returns-3
 returns-3 c =
-    let a = c .before .before .before .before .before .before .before .before .args in
-    let s = stateOf (now (a .words)) (now (a .bytes)) in
-    let m = memoryOf (now (a .permanent)) (now (a .scratch)) (now (a .map)) in
-    let k = kind-read (now (a .words)) (now (a .bytes)) (a .t) (search needs) ∙ sym (c .before .kind-at .ensures) in
-    start-started s m (a .t) (a .kind) (fit s m (c .before .before .before .before .lengths-fit .ensures) (c .before .before .before .if1 .left)) (search needs) (λ z. c .if3 .taken (sym k ∙ z))
+    let a = c .before .before .before .before .args in
+    let k = kind-read (now (a .words)) (now (a .bytes)) (a .t) (search needs) ∙ sym (c .before .before .kind-at .ensures) in
+    start-no-kind (stateIn (a .words) (a .bytes)) (a .t) (a .kind) (search needs) (k ∙ c .before .if2 .left) (search needs)
 
 returns-4 : tie.Need-returns-4
 returns-4 c =
-    let a = c .before .before .before .before .before .before .before .before .before .args in
-    let s = stateOf (now (a .words)) (now (a .bytes)) in
-    let m = memoryOf (now (a .permanent)) (now (a .scratch)) (now (a .map)) in
-    let k = kind-read (now (a .words)) (now (a .bytes)) (a .t) (search needs) ∙ sym (c .before .before .kind-at .ensures) in
-    start-no-kind s m (a .t) (a .kind) (fit s m (c .before .before .before .before .before .lengths-fit .ensures) (c .before .before .before .before .if1 .left)) (search needs) (k ∙ c .before .if3 .left) (search needs)
+    let a = c .before .before .before .before .before .args in
+    let k = kind-read (now (a .words)) (now (a .bytes)) (a .t) (search needs) ∙ sym (c .before .before .before .kind-at .ensures) in
+    start-other-kind (stateIn (a .words) (a .bytes)) (a .t) (a .kind) (search needs) (k ∙ c .before .before .if2 .left) (search needs) (search needs)
 
 returns-5 : tie.Need-returns-5
 returns-5 c =
-    let a = c .before .before .before .before .before .before .before .before .before .before .args in
-    let s = stateOf (now (a .words)) (now (a .bytes)) in
-    let m = memoryOf (now (a .permanent)) (now (a .scratch)) (now (a .map)) in
+    let a = c .before .before .before .before .before .args in
     let k = kind-read (now (a .words)) (now (a .bytes)) (a .t) (search needs) ∙ sym (c .before .before .before .kind-at .ensures) in
-    start-other-kind s m (a .t) (a .kind) (fit s m (c .before .before .before .before .before .before .lengths-fit .ensures) (c .before .before .before .before .before .if1 .left)) (search needs) (k ∙ c .before .before .if3 .left) (search needs) (search needs)
-
-returns-6 : tie.Need-returns-6
-returns-6 c =
-    let a = c .before .before .before .before .before .before .before .before .before .before .args in
-    let s = stateOf (now (a .words)) (now (a .bytes)) in
-    let m = memoryOf (now (a .permanent)) (now (a .scratch)) (now (a .map)) in
-    let k = kind-read (now (a .words)) (now (a .bytes)) (a .t) (search needs) ∙ sym (c .before .before .before .kind-at .ensures) in
-    start-accepted s m (a .t) (a .kind) (fit s m (c .before .before .before .before .before .before .lengths-fit .ensures) (c .before .before .before .before .before .if1 .left)) (search needs) (k ∙ c .before .before .if3 .left) (search needs) (search needs)
+    start-accepted (stateIn (a .words) (a .bytes)) (a .t) (a .kind) (search needs) (k ∙ c .before .before .if2 .left) (search needs) (search needs)
 
 pub check-start-spec : {M : Type 1} → statement M
-check-start-spec =
-    tie.close
-    (tie.spec
-    lengths-fit-requires
-    returns
-    returns-2
-    kind-at-requires
-    returns-3
-    returns-4
-    returns-5
-    returns-6)
+check-start-spec = tie.close (tie.spec returns (search needs) returns-2 returns-3 returns-4 returns-5)

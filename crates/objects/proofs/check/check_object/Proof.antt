@@ -1,0 +1,66 @@
+-- `check_object` meets its contract: one law for each way that it ends.
+use mathlib.Core.Path.{_≡_, sym, _∙_}
+use native.Mathlib.Omega.{arith}
+use borrow.Author.Needs.{needs}
+use borrow.Author.Tests.{not-true, not-false}
+use Rattle.model.specs.State.{State, Memory}
+use Rattle.tables.specs.Contract.{stateIn, memoryIn}
+use Rattle.objects.specs.declared.find.Found.the-variants.{At}
+use Rattle.objects.specs.Found.{foundOf}
+use Rattle.objects.specs.Places.{at-live}
+use Rattle.objects.specs.Checked.{object-checked, refused-checked}
+use Rattle.objects.specs.Statuses.{use-nothing, use-no-right, use-right}
+use Rattle.objects.proofs.check.check_object.Statement.{statement}
+use Rattle.objects.proofs.check.check_object.Tie as tie
+
+abbrev start : tie.After-lookup → tie.Start
+start c = c .before .before .before .before
+
+abbrev state : tie.After-lookup → State
+state c = stateIn (start c .args .words) (start c .args .bytes)
+
+abbrev memory : tie.After-lookup → Memory
+memory c = memoryIn (start c .args .permanent) (start c .args .scratch) (start c .args .map)
+
+-- the object that is found
+abbrev past : tie.After-known-told → tie.After-lookup
+past c = c .before .before .before
+
+seen : (c : tie.After-known-told) → At (c .before .o .given .0 .0) ≡ foundOf (state (past c)) (memory (past c)) (start (past c) .args .p)
+seen c = sym (c .before .o .given .1) ∙ past c .lookup .ensures .0
+
+lookup-requires : tie.Need-lookup-requires
+lookup-requires c κs =
+    let i = c .before .before .before in
+    (i .pre .0, i .pre .1 .supplied)
+
+enum-known-o : tie.Need-enum-known-o
+enum-known-o c = search needs
+
+enum-told : tie.Need-enum-told
+enum-told c = search needs
+
+returns : tie.Need-returns
+returns c =
+    let d = c .before .before in
+    refused-checked _ (λ z. omega arith) (use-nothing _ _ _ _ (start d .pre .0 .good) (sym (c .enum-told .given .1) ∙ d .lookup .ensures .0))
+
+has-right-requires : tie.Need-has-right-requires
+has-right-requires c κs = start (past c) .pre .1 .called .thread
+
+returns-2 : tie.Need-returns-2
+returns-2 c =
+    let k = c .before .before in
+    let i = start (past k) in
+    refused-checked _ (λ z. omega arith) (use-no-right _ _ _ _ (i .pre .0 .good) _ (seen k) (sym (c .before .has-right .ensures) ∙ not-true (c .before .has-right .result) (c .if1 .taken)))
+
+returns-3 : tie.Need-returns-3
+returns-3 c =
+    let k = c .before .before in
+    let i = start (past k) in
+    object-checked _ (at-live _ _ _ _ (seen k) .1) (use-right _ _ _ _ (i .pre .0 .good) _ (seen k) (sym (c .before .has-right .ensures) ∙ not-false (c .before .has-right .result) (c .if1 .left)))
+
+pub check-object-spec : {M : Type 1} → statement M
+check-object-spec =
+    tie.close
+    (tie.spec lookup-requires enum-known-o enum-told returns has-right-requires returns-2 returns-3)

@@ -1,0 +1,66 @@
+-- One law for each way that the checks of every call on an object end.
+-- Assumes nothing.
+use Prim.Native.Nat.{ℕ}
+use mathlib.Core.Bool.{true, false, not}
+use mathlib.Core.Path.{_≡_, refl, sym, ap, _∙_}
+use Rattle.layout.specs.Choice.{refuse, hit, skip}
+use Rattle.layout.specs.Handle.{areaOf}
+use Rattle.layout.specs.Header.{slotsOf, dataOf}
+use Rattle.rights.specs.declared.Right.the-variants.{Use}
+use Rattle.model.specs.State.{State, Memory}
+use Rattle.model.specs.Checks.{hasRight, headerAt, isObject, useRest}
+use Rattle.model.specs.Invariant.{Good}
+use Rattle.objects.specs.declared.find.Resolved.{Resolved}
+use Rattle.objects.specs.declared.find.Found.the-variants.{At, Nothing}
+use Rattle.objects.specs.Found.{objectOf, foundOf}
+use Rattle.objects.specs.Places.{at-live, nothing-live, object-live}
+use Rattle.objects.specs.Chains.{Chain, chain-none, chain-more}
+
+-- ---- the fields of the object that a handle leads to
+
+module _ (s : State) (m : Memory) (p : ℕ) (o : Resolved) where
+  module _ (e : o ≡ objectOf s m p) where
+    pub area-is : o .area ≡ areaOf p
+    unfolding objectOf
+    area-is = ap (λ (x : Resolved). x .area) e
+
+    pub slots-is : o .slots ≡ slotsOf (headerAt s m p)
+    unfolding objectOf
+    slots-is = ap (λ (x : Resolved). x .slots) e
+
+    pub data-words-is : o .data_words ≡ dataOf (headerAt s m p)
+    unfolding objectOf
+    data-words-is = ap (λ (x : Resolved). x .data_words) e
+
+  pub found-area : At o ≡ foundOf s m p → o .area ≡ areaOf p
+  found-area e = area-is (at-live s m p o e .1)
+
+module _ (s : State) (m : Memory) (t p : ℕ) where
+  -- ---- refusals 13 and 5
+
+  pub use-chain : Chain (useRest s m t p)
+  unfolding useRest
+  use-chain =
+      chain-more (λ (n : ℕ). refuse (not (isObject s m p)) 13 n) (not (hasRight s t Use (areaOf p))) 4
+      (chain-more (λ (n : ℕ). n) (not (isObject s m p)) 12 chain-none)
+
+  module _ (g : Good s) where
+    pub use-nothing : Nothing ≡ foundOf s m p → 13 ≡ useRest s m t p 0
+    unfolding useRest
+    use-nothing e = sym (hit (not (isObject s m p)) 13 _ (ap not (object-live s m p g ∙ nothing-live s m p e)))
+
+    module _ (o : Resolved) (e : At o ≡ foundOf s m p) where
+      found : not (isObject s m p) ≡ false
+      found = ap not (object-live s m p g ∙ at-live s m p o e .0)
+
+      pub use-no-right : hasRight s t Use (o .area) ≡ false → 5 ≡ useRest s m t p 0
+      unfolding useRest
+      use-no-right r = sym (
+          skip (not (isObject s m p)) 13 _ found
+          ∙ hit (not (hasRight s t Use (areaOf p))) 5 0 (ap not (ap (hasRight s t Use) (sym (found-area s m p o e)) ∙ r)))
+
+      pub use-right : hasRight s t Use (o .area) ≡ true → 0 ≡ useRest s m t p 0
+      unfolding useRest
+      use-right r = sym (
+          skip (not (isObject s m p)) 13 _ found
+          ∙ skip (not (hasRight s t Use (areaOf p))) 5 0 (ap not (ap (hasRight s t Use) (sym (found-area s m p o e)) ∙ r)))

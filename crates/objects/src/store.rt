@@ -1,0 +1,42 @@
+// The words of an area: the store that has them, one of them read or written, and its place in the start
+// map.
+ghost use mathlib.Core.Path.{_≡_};
+ghost use Prim.Native.Nat.{_+_, _<_};
+ghost use lib.ListN.{length, getD, set};
+ghost use Rattle.layout.specs.Choice.{pick};
+ghost use Rattle.model.specs.State.{isScope};
+ghost use Rattle.objects.specs.Stores.{storeIn, Stores};
+
+// A word of the store that has an area's words.
+pub fn word_at(permanent: &[u64], scratch: &[u64], area: u64, at: usize) -> u64
+    requires { ⌜ at < length (storeIn permanent scratch area) ⌝ }
+    ensures { λ r. ⌜ r ≡ getD (storeIn (permanent .entry) (scratch .entry) area) at 0 ⌝ }
+{
+    if 2 <= area {
+        return scratch[at];
+    }
+    permanent[at]
+}
+
+// A word into the store that has an area's words.
+pub fn put_word(permanent: &mut [u64], scratch: &mut [u64], area: u64, at: usize, word: u64)
+    requires { ⌜ at < length (storeIn permanent scratch area) ⌝ }
+    ensures { λ r. ⌜ Stores permanent scratch area (λ l. set l at word) ⌝ }
+{
+    if area < 2 {
+        permanent[at] = word;
+        return;
+    }
+    scratch[at] = word;
+}
+
+// The place of a word in the start map: permanent words count first, then scratch words.
+pub fn bit_index(permanent: usize, area: u64, at: usize) -> usize
+    requires { ⌜ permanent + at < 65536 ⌝ }
+    ensures { λ r. ⌜ r ≡ pick (isScope area) permanent 0 + at ⌝ }
+{
+    if 2 <= area {
+        return permanent + at;
+    }
+    at
+}
