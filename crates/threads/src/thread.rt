@@ -87,9 +87,10 @@ pub fn end_on(words: &mut Words, bytes: &Bytes, t: u64) -> Answer
     if refusal == 0 {
         tables::put_kind(words, t as usize, 0);
     }
+    let value = 0; // none is named
     Answer {
         status: refusal,
-        value: 0,
+        value,
     }
 }
 
