@@ -63,7 +63,6 @@ module _ (s : State) where
   unfolding displayAt
   display-same r a e d = ap₂ (λ (l : List ℕ) (n : ℕ). down l n) d e
 
-
 -- area a and its row are as they were
 pub record Untouched (s n : State) (a : ℕ) : Type 0 where
   pub area : areaAt n a ≡ areaAt s a
