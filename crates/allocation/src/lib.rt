@@ -1,6 +1,6 @@
 // Op 06: an object is allocated in the current area of a thread.
+use layout::answer::Answer;
 use layout::handle;
-use layout::stack::Answer;
 use model::Area;
 use rights::Right;
 use tables::Bytes;

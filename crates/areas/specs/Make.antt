@@ -7,7 +7,6 @@ use mathlib.Core.List.{List}
 use Prim.Native.Nat.{ℕ, _+_, _-_, _≤_, _<_}
 use native.Mathlib.Omega.{arith}
 use lib.Dec.{eqb, ltb}
-use lib.ListN.{getD}
 use borrow.Author.Tests.{le-leb, lt-leb, lt-ltb, le-ltb}
 use Rattle.layout.specs.Choice.{refuse}
 use Rattle.model.specs.declared.Area.{Area}
@@ -16,22 +15,22 @@ use Rattle.model.specs.State.{State, madeAs, isMade, withArea, withTaken}
 use Rattle.model.specs.Checks.{called}
 use Rattle.model.specs.Scopes.{makeRest, madeArea, makeState}
 use Rattle.model.proofs.Accepted.{Called, MakeOk, make-ok}
-use Rattle.tables.specs.Decode.{stateOf, areaOf, lengthsOf, putArea, putTaken, Sized, Holds}
+use Rattle.tables.specs.Decode.{stateOf, areaRecord, putArea, lengthsRecord, takenOf, putTaken, Shaped, Holds}
 use Rattle.tables.specs.Contract.{Ready}
 use Rattle.tables.specs.Laws.{area-read, lengths-read, taken-read, state-area, state-taken}
 use Rattle.threads.specs.Caller.{thread-refused, called-rest}
 
 -- the words tell whether an area is made
-made-read : (w b : List ℕ) (q : ℕ) → q < 64 → isMade (stateOf w b) q ≡ madeAs (areaOf w q) q
+made-read : (w b : List ℕ) (q : ℕ) → q < 64 → isMade (stateOf w b) q ≡ madeAs (areaRecord w q) q
 unfolding isMade
 made-read w b q h = ap (λ (x : Area). madeAs x q) (area-read w b q h)
 
 -- an area of the words is made, where r says so of its record x
-pub made-is : (w b : List ℕ) (q : ℕ) → q < 64 → {r : Bool} {x : Area} → r ≡ madeAs x q → x ≡ areaOf w q → isMade (stateOf w b) q ≡ r
+pub made-is : (w b : List ℕ) (q : ℕ) → q < 64 → {r : Bool} {x : Area} → r ≡ madeAs x q → x ≡ areaRecord w q → isMade (stateOf w b) q ≡ r
 made-is w b q h e f = made-read w b q h ∙ sym (e ∙ ap (λ (x : Area). madeAs x q) f)
 
 -- the scratch words that are not taken, where n and l are what the code reads
-module _ (w b : List ℕ) {n : ℕ} {l : Lengths} (e : n ≡ getD w 547 0) (f : l ≡ lengthsOf w) where
+module _ (w b : List ℕ) {n : ℕ} {l : Lengths} (e : n ≡ takenOf w) (f : l ≡ lengthsRecord w) where
   scratch-left : stateOf w b .lengths .scratch - stateOf w b .taken ≡ l .scratch - n
   scratch-left = rw (lengths-read w b, taken-read w b, e, f) refl
 
@@ -79,20 +78,20 @@ module _ (s : State) (t q r : ℕ) where
 -- ---- what is left
 
 -- the sum of the taken words and the new ones fits
-pub taken-fits : (w b : List ℕ) (r : ℕ) {n : ℕ} → Ready w b → n ≡ getD w 547 0 → stateOf w b .taken + r ≤ stateOf w b .lengths .scratch → n + r ≤ 16384
+pub taken-fits : (w b : List ℕ) (r : ℕ) {n : ℕ} → Ready w b → n ≡ takenOf w → stateOf w b .taken + r ≤ stateOf w b .lengths .scratch → n + r ≤ 16384
 taken-fits w b r g e h = omega (arith, g .good .placed .scratch, taken-read w b)
 
-module _ (w b : List ℕ) (z : Sized w b) (q r : ℕ) (h : q < 64) where
-  pub made-holds : Holds (putTaken (putArea w q (madeArea (areaOf w q) (getD w 547 0) r)) (getD w 547 0 + r)) b (makeState (stateOf w b) q r)
+module _ (w b : List ℕ) (z : Shaped w b) (q r : ℕ) (h : q < 64) where
+  pub made-holds : Holds (putTaken (putArea w q (madeArea (areaRecord w q) (takenOf w) r)) (takenOf w + r)) b (makeState (stateOf w b) q r)
   unfolding makeState
   made-holds =
-      let x : Area = madeArea (areaOf w q) (getD w 547 0) r in
+      let x : Area = madeArea (areaRecord w q) (takenOf w) r in
       let a : Holds (putArea w q x) b (withArea (stateOf w b) q x) = state-area w b q x h z in
-      let k : Holds (putTaken (putArea w q x) (getD w 547 0 + r)) b (withTaken (stateOf (putArea w q x) b) (getD w 547 0 + r)) = state-taken (putArea w q x) b (getD w 547 0 + r) (a .sized) in
+      let k : Holds (putTaken (putArea w q x) (takenOf w + r)) b (withTaken (stateOf (putArea w q x) b) (takenOf w + r)) = state-taken (putArea w q x) b (takenOf w + r) (a .sized) in
       record {
         sized = k .sized;
         state =
             k .state
-            ∙ ap (λ (s : State). withTaken s (getD w 547 0 + r)) (a .state)
+            ∙ ap (λ (s : State). withTaken s (takenOf w + r)) (a .state)
             ∙ rw (area-read w b q h, taken-read w b) refl;
       }

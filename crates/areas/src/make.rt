@@ -1,5 +1,5 @@
 // Op 03: a scope is made.
-use layout::stack::Answer;
+use layout::answer::Answer;
 use model::Area;
 use tables::Bytes;
 use tables::Words;

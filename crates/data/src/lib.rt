@@ -1,5 +1,5 @@
 // Ops 09 and 0a: a data word is written or read.
-use layout::stack::Answer;
+use layout::answer::Answer;
 use objects::Checked;
 use tables::Bytes;
 use tables::Words;

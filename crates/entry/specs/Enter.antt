@@ -4,10 +4,10 @@ use mathlib.Core.Path.{_≡_, ap, sym, _∙_}
 use mathlib.Core.Bool.{Bool, true, false, not, _&&_}
 use mathlib.Core.Logic.{_≢_}
 use mathlib.Core.List.{List}
-use Prim.Native.Nat.{ℕ, suc, _+_, _*_, _≤_, _<_}
+use Prim.Native.Nat.{ℕ, suc, _≤_, _<_}
 use native.Mathlib.Omega.{arith}
 use lib.Dec.{eqb, leb, ltb}
-use lib.ListN.{getD, set}
+use lib.ListN.{set}
 use borrow.Author.Tests.{le-leb, lt-leb, lt-ltb, le-ltb, eq-eqb, ne-eqb}
 use Rattle.layout.specs.Choice.{refuse}
 use Rattle.rights.specs.declared.Right.the-variants.{Enter}
@@ -17,7 +17,7 @@ use Rattle.model.specs.Checks.{called, hasRight}
 use Rattle.model.specs.Scopes.{lastGeneration, otherParent, atLastGeneration, enterRest}
 use Rattle.model.specs.Invariant.{Good}
 use Rattle.model.proofs.Accepted.{Called, EnterOk, enter-ok}
-use Rattle.tables.specs.Decode.{stateOf, areaOf}
+use Rattle.tables.specs.Decode.{stateOf, areaRecord, lenOf}
 use Rattle.tables.specs.Laws.{area-read, len-read}
 use Rattle.threads.specs.Caller.{thread-refused, called-rest}
 use Rattle.model.proofs.Bounds.{inner-area, count-bound}
@@ -132,19 +132,19 @@ module _ (s : State) (t q : ℕ) where
 
 -- the refusals of a thread and an area that are there, where r, l and x are what the code reads of them
 pub there-read : (w b : List ℕ) (t q p : ℕ) {r : Bool} {l n : ℕ} {x : Area} → t < 16 → q < 64
-    → r ≡ hasRight (stateOf w b) t Enter q → l ≡ getD w (513 + t * 2) 0 → x ≡ areaOf w q
+    → r ≡ hasRight (stateOf w b) t Enter q → l ≡ lenOf w t → x ≡ areaRecord w q
     → n ≡ entryRest r l p x q → n ≡ thereRest (stateOf w b) t q p
 there-read w b t q p ht hq er el ex e = rw (sym er, len-read w b t ht ∙ sym el, area-read w b q hq ∙ sym ex) e
 
 -- what an area that opens has, from its record in the words
 module _ (w b : List ℕ) (q p : ℕ) (o : Openable (stateOf w b) q p) {x : Area} where
-  pub count-room : x ≡ areaOf w q → x .count ≤ 512
+  pub count-room : x ≡ areaRecord w q → x .count ≤ 512
   count-room e = rw (area-read w b q (o .area) ∙ sym e) at (o .count)
 
-  pub depth-room : x ≡ areaOf w p → x .depth < 32
+  pub depth-room : x ≡ areaRecord w p → x .depth < 32
   depth-room e = rw (area-read w b p (o .parent) ∙ sym e) at (o .depth)
 
-  pub generation-room : x ≡ areaOf w q → 2 ≤ q → x .count ≤ 0 → x .generation < lastGeneration
+  pub generation-room : x ≡ areaRecord w q → 2 ≤ q → x .count ≤ 0 → x .generation < lastGeneration
   generation-room e h k =
       let f : areaAt (stateOf w b) q ≡ x = area-read w b q (o .area) ∙ sym e in
       let z : x .count ≡ 0 = omega arith in

@@ -2,24 +2,24 @@
 -- Assumes nothing.
 use mathlib.Core.Path.{_≡_, refl, ap, sym, _∙_}
 use mathlib.Core.List.{List}
-use Prim.Native.Nat.{ℕ, suc, _+_, _*_, _≤_, _<_}
+use Prim.Native.Nat.{ℕ, suc, _+_, _≤_, _<_}
 use native.Mathlib.Numerals.{add-one}
 use native.Mathlib.Omega.{arith}
 use lib.Dec.{leb, ltb}
-use lib.ListN.{length, getD, length-set}
+use lib.ListN.{length, length-set}
 use borrow.Author.Tests.{le-leb, lt-leb, lt-ltb, le-ltb}
 use Rattle.layout.specs.Choice.{pick, cases}
-use Rattle.display.specs.Display.{extendedRow}
+use Rattle.layout.specs.Display.{extendedRow}
 use Rattle.model.specs.declared.Area.{Area}
 use Rattle.model.specs.State.{State, areaAt, threadAt, withArea, withRow, stackAt, innermost, isScope}
 use Rattle.model.specs.Scopes.{reentered, opened, enteredArea, pushed, enterState, enterValue}
-use Rattle.tables.specs.Decode.{stateOf, areaOf, rowOf, putArea, putRow, putLen, putEntry, putInner, Sized, Holds}
+use Rattle.tables.specs.Decode.{stateOf, areaRecord, putArea, lenOf, putLen, putEntry, putInner, displayRow, putRow, Shaped, Holds}
 use Rattle.tables.specs.Laws.{area-read, row-read, len-read, length-row, state-area, state-row, state-push}
 use Rattle.entry.specs.Enter.{pushedState}
 
 -- ---- the area and the value, where x is what the code reads of area q, y what it makes of it, and v the words after that
 
-module _ (w b : List ℕ) (z : Sized w b) (q p : ℕ) (hq : q < 64) (hp : p < 64) {x : Area} (e : x ≡ areaOf w q) where
+module _ (w b : List ℕ) (z : Shaped w b) (q p : ℕ) (hq : q < 64) (hp : p < 64) {x : Area} (e : x ≡ areaRecord w q) where
   here : areaAt (stateOf w b) q ≡ x
   here = area-read w b q hq ∙ sym e
 
@@ -43,16 +43,16 @@ module _ (w b : List ℕ) (z : Sized w b) (q p : ℕ) (hq : q < 64) (hp : p < 64
         rw (g, f) (record { sized = a .sized; state = a .state ∙ rw (here, le-leb 2 q h, lt-ltb 0 (x .count) o) refl })
 
     -- u is the parent's area
-    module _ {u y : Area} (o : x .count ≤ 0) (d : u ≡ areaOf w p) (f : y ≡ opened x p (u .depth)) where
+    module _ {u y : Area} (o : x .count ≤ 0) (d : u ≡ areaRecord w p) (f : y ≡ opened x p (u .depth)) where
       pub value-fresh : y .generation ≡ enterValue (stateOf w b) q
       unfolding enterValue
       value-fresh = ap (λ (a : Area). a .generation) f ∙ rw (here, le-leb 2 q h, le-ltb 0 (x .count) o) refl
 
-      pub entered-fresh : {v r : List ℕ} → r ≡ putRow b q (extendedRow (rowOf b p) (u .depth) q) → v ≡ putArea w q y → Holds v r (enteredArea (stateOf w b) q p)
+      pub entered-fresh : {v r : List ℕ} → r ≡ putRow b q (extendedRow (displayRow b p) (u .depth) q) → v ≡ putArea w q y → Holds v r (enteredArea (stateOf w b) q p)
       unfolding enteredArea
       entered-fresh i g =
-          let l : List ℕ = extendedRow (rowOf b p) (u .depth) q in
-          let n : length l ≡ 32 = length-set (rowOf b p) (u .depth) q ∙ length-row b p in
+          let l : List ℕ = extendedRow (displayRow b p) (u .depth) q in
+          let n : length l ≡ 32 = length-set (displayRow b p) (u .depth) q ∙ length-row b p in
           let k : Holds w (putRow b q l) (withRow (stateOf w b) q l) = state-row w b q l hq n z in
           let a : Holds (putArea w q y) (putRow b q l) (withArea (stateOf w (putRow b q l)) q y) = state-area w (putRow b q l) q y hq (k .sized) in
           let s : areaAt (stateOf w b) p ≡ u = area-read w b p hp ∙ sym d in
@@ -65,7 +65,7 @@ module _ (w b : List ℕ) (z : Sized w b) (q p : ℕ) (hq : q < 64) (hp : p < 64
 
 -- ---- the stack
 
-pub pushed-holds : (w b : List ℕ) → Sized w b → (t q i n : ℕ) → t < 16 → n ≡ getD w (513 + t * 2) 0 → n < 32
+pub pushed-holds : (w b : List ℕ) → Shaped w b → (t q i n : ℕ) → t < 16 → n ≡ lenOf w t → n < 32
     → Holds (putLen w t (n + 1)) (putInner (putEntry b t n q) t n i) (pushedState (stateOf w b) t q i)
 unfolding pushedState
 pushed-holds w b z t q i n h e k =

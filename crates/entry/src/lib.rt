@@ -1,6 +1,6 @@
 // Op 04: an area is entered.
-use display::Depth;
-use layout::stack::Answer;
+use layout::display::Depth;
+use layout::answer::Answer;
 use layout::stack::Place;
 use model::Area;
 use rights::Right;
@@ -9,11 +9,11 @@ use tables::Words;
 ghost use mathlib.Core.Path.{_≡_};
 ghost use Prim.Native.Nat.{_<_, _≤_};
 ghost use Rattle.layout.specs.Choice.{pick};
-ghost use Rattle.display.specs.Display.{extendedRow};
+ghost use Rattle.layout.specs.Display.{extendedRow};
 ghost use Rattle.model.specs.State.{isScope, threadAt, areaAt, stackAt, innermost};
 ghost use Rattle.model.specs.Scopes.{lastGeneration, reentered, opened, enteredArea, enterState, enterValue, enterChange};
 ghost use Rattle.model.specs.Calls as calls;
-ghost use Rattle.tables.specs.Decode.{rowOf, putRow, Sized};
+ghost use Rattle.tables.specs.Decode.{displayRow, putRow, Shaped};
 ghost use Rattle.tables.specs.Contract.{stateIn, before, Leaves, Usable, Changes, Answers};
 ghost use Rattle.entry.specs.Enter.{entryRest, thereRest, Openable, Enterable, pushedState};
 
@@ -57,7 +57,7 @@ fn check_there(words: &Words, bytes: &Bytes, t: usize, q: u64, inner: u8) -> u64
     ensures { λ n. ⌜ n ≡ thereRest (before words bytes) t q inner ⌝ }
 {
     let allowed = threads::has_right(words, bytes, t, Right::Enter, q);
-    let len = stacks::len_at(words, t);
+    let len = tables::len_at(words, t);
     let x = tables::area_at(words, q as usize);
     check_entry(allowed, len, inner as u64, x, q)
 }
@@ -93,16 +93,16 @@ fn opened_area(x: Area, parent: u64, depth: Depth) -> Area
 // The display of scope q, which opens below p: that of p, with q last.
 fn put_display(bytes: &mut Bytes, q: usize, p: usize, depth: Depth)
     requires { ⌜ (q < 64) × (p < 64) × (depth .0 < 32) ⌝ }
-    ensures { λ u. ⌜ now (bytes .exit) ≡ putRow (now (bytes .entry)) q (extendedRow (rowOf (now (bytes .entry)) p) (depth .0) q) ⌝ }
+    ensures { λ u. ⌜ now (bytes .exit) ≡ putRow (now (bytes .entry)) q (extendedRow (displayRow (now (bytes .entry)) p) (depth .0) q) ⌝ }
 {
-    let row = rows::row_at(bytes, p);
-    rows::put_row(bytes, q, display::extended(row, depth, q as u8));
+    let row = tables::row_at(bytes, p);
+    tables::put_row(bytes, q, layout::display::extended(row, depth, q as u8));
 }
 
 // Area q is entered where p is the innermost scope; its generation after that. The area is written before
 // the display: the compiler then sees that its start and size are as they were read.
 fn enter_area(words: &mut Words, bytes: &mut Bytes, q: usize, p: usize) -> u64
-    requires { ⌜ Sized (now words) (now bytes) × Openable (stateIn words bytes) q p ⌝ }
+    requires { ⌜ Shaped (now words) (now bytes) × Openable (stateIn words bytes) q p ⌝ }
     ensures value { λ r. ⌜ r ≡ enterValue (before words bytes) q ⌝ }
     ensures state { λ r. ⌜ Leaves words bytes (enteredArea (before words bytes) q p) ⌝ }
 {
@@ -135,14 +135,14 @@ fn inner_after(q: u8, p: u8) -> u8
 
 // Area q goes on top of a stack, and beside it the innermost scope as of that entry.
 fn push(words: &mut Words, bytes: &mut Bytes, t: usize, q: u8, inner: u8)
-    requires { ⌜ Sized (now words) (now bytes) × (t < 16) × (threadAt (stateIn words bytes) t .len < 32) ⌝ }
+    requires { ⌜ Shaped (now words) (now bytes) × (t < 16) × (threadAt (stateIn words bytes) t .len < 32) ⌝ }
     ensures { λ u. ⌜ Leaves words bytes (pushedState (before words bytes) t q inner) ⌝ }
 {
-    let len = stacks::len_at(words, t) as usize;
+    let len = tables::len_at(words, t) as usize;
     let top = Place(len);
-    stacks::put_entry(bytes, t, top, q);
-    stacks::put_inner(bytes, t, top, inner);
-    stacks::put_len(words, t, len as u64 + 1);
+    tables::put_entry(bytes, t, top, q);
+    tables::put_inner(bytes, t, top, inner);
+    tables::put_len(words, t, len as u64 + 1);
 }
 
 // ---- the call

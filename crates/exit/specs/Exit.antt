@@ -3,11 +3,10 @@
 use mathlib.Core.Path.{_≡_, refl, ap, sym, _∙_}
 use mathlib.Core.Logic.{_≢_}
 use mathlib.Core.List.{List}
-use Prim.Native.Nat.{ℕ, pred, _+_, _-_, _*_, _≤_, _<_}
+use Prim.Native.Nat.{ℕ, pred, _-_, _≤_, _<_}
 use native.Mathlib.Omega.{arith}
 use native.Mathlib.Numerals.{sub-one}
 use lib.Dec.{leb}
-use lib.ListN.{getD}
 use borrow.Author.Tests.{le-leb, lt-leb, eq-eqb, ne-eqb}
 use Rattle.layout.specs.Choice.{hit, skip, pick, cases}
 use Rattle.model.specs.declared.Area.{Area}
@@ -15,7 +14,7 @@ use Rattle.model.specs.State.{State, areaAt, threadAt, withArea, withThread, st
 use Rattle.model.specs.Checks.{called}
 use Rattle.model.specs.Scopes.{exitRest, left, leftArea, popped, exitState, exitValue}
 use Rattle.model.proofs.Accepted.{Called, ExitOk, exit-ok}
-use Rattle.tables.specs.Decode.{stateOf, areaOf, putArea, putLen, Sized, Holds}
+use Rattle.tables.specs.Decode.{stateOf, areaRecord, putArea, lenOf, putLen, Shaped, Holds}
 use Rattle.tables.specs.Laws.{area-read, len-read, state-area, state-len}
 use Rattle.threads.specs.Caller.{thread-refused, called-rest}
 
@@ -47,30 +46,30 @@ pub left-last : (x : Area) → x .count ≡ 1
     → record { start = x .start; size = x .size; used = 0; generation = x .generation; count = 0; parent = 0; depth = 0 } ≡ left x
 left-last x h = rw h refl
 
-module _ (w b : List ℕ) (z : Sized w b) (q : ℕ) where
+module _ (w b : List ℕ) (z : Shaped w b) (q : ℕ) where
   pub left-standing : q < 2 → Holds w b (leftArea (stateOf w b) q)
   unfolding leftArea
   left-standing h = record { sized = z; state = rw (lt-leb 2 q h) refl }
 
-  pub left-scope : q < 64 → 2 ≤ q → Holds (putArea w q (left (areaOf w q))) b (leftArea (stateOf w b) q)
+  pub left-scope : q < 64 → 2 ≤ q → Holds (putArea w q (left (areaRecord w q))) b (leftArea (stateOf w b) q)
   unfolding leftArea
   left-scope k h =
-      let a = state-area w b q (left (areaOf w q)) k z in
+      let a = state-area w b q (left (areaRecord w q)) k z in
       record { sized = a .sized; state = a .state ∙ rw (area-read w b q k, le-leb 2 q h) refl }
 
   pub count-standing : q < 2 → 0 ≡ pick (isScope q) (pred (areaAt (stateOf w b) q .count)) 0
   count-standing h = rw (lt-leb 2 q h) refl
 
-  pub count-scope : q < 64 → 2 ≤ q → left (areaOf w q) .count ≡ pick (isScope q) (pred (areaAt (stateOf w b) q .count)) 0
+  pub count-scope : q < 64 → 2 ≤ q → left (areaRecord w q) .count ≡ pick (isScope q) (pred (areaAt (stateOf w b) q .count)) 0
   count-scope k h = rw (area-read w b q k, le-leb 2 q h) refl
 
 -- a scope that is left is open, from its record in the words
-pub left-open : (w b : List ℕ) (q : ℕ) {x : Area} → q < 64 → (2 ≤ q → 0 < areaAt (stateOf w b) q .count) → x ≡ areaOf w q → 2 ≤ q → 0 < x .count
+pub left-open : (w b : List ℕ) (q : ℕ) {x : Area} → q < 64 → (2 ≤ q → 0 < areaAt (stateOf w b) q .count) → x ≡ areaRecord w q → 2 ≤ q → 0 < x .count
 left-open w b q k o e h = rw (area-read w b q k ∙ sym e) at (o h)
 
 -- ---- the stack
 
-pub popped-holds : (w b : List ℕ) → Sized w b → (t n : ℕ) → t < 16 → n ≡ getD w (513 + t * 2) 0
+pub popped-holds : (w b : List ℕ) → Shaped w b → (t n : ℕ) → t < 16 → n ≡ lenOf w t
     → Holds (putLen w t (n - 1)) b (withThread (stateOf w b) t (popped (threadAt (stateOf w b) t)))
 unfolding popped
 popped-holds w b z t n h e =

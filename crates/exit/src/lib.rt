@@ -1,5 +1,5 @@
 // Op 05: an area is left.
-use layout::stack::Answer;
+use layout::answer::Answer;
 use model::Area;
 use tables::Bytes;
 use tables::Words;
@@ -9,7 +9,7 @@ ghost use Rattle.layout.specs.Choice.{pick};
 ghost use Rattle.model.specs.State.{isScope, areaAt, threadAt, withThread};
 ghost use Rattle.model.specs.Scopes.{exitRest, left, leftArea, popped, exitState, exitValue, exitChange};
 ghost use Rattle.model.specs.Calls as calls;
-ghost use Rattle.tables.specs.Decode.{Sized};
+ghost use Rattle.tables.specs.Decode.{Shaped};
 ghost use Rattle.tables.specs.Contract.{stateIn, before, Leaves, Usable, Changes, Answers};
 
 fn check_exit(words: &Words, bytes: &Bytes, t: u64) -> u64
@@ -19,7 +19,7 @@ fn check_exit(words: &Words, bytes: &Bytes, t: u64) -> u64
     if refusal != 0 {
         return refusal;
     }
-    if stacks::len_at(words, t as usize) == 0 {
+    if tables::len_at(words, t as usize) == 0 {
         return 11;
     }
     0
@@ -48,7 +48,7 @@ fn left_area(x: Area) -> Area
 
 // Area q is left; the count that is left of a scope, else 0.
 fn leave_area(words: &mut Words, bytes: &Bytes, q: usize) -> u64
-    requires { ⌜ Sized (now words) (now bytes) × (q < 64) × (2 ≤ q → 0 < areaAt (stateIn words bytes) q .count) ⌝ }
+    requires { ⌜ Shaped (now words) (now bytes) × (q < 64) × (2 ≤ q → 0 < areaAt (stateIn words bytes) q .count) ⌝ }
     ensures { λ r. ⌜ r ≡ pick (isScope q) (pred (areaAt (before words bytes) q .count)) 0 ⌝ }
     ensures { λ r. ⌜ Leaves words bytes (leftArea (before words bytes) q) ⌝ }
 {
@@ -62,11 +62,11 @@ fn leave_area(words: &mut Words, bytes: &Bytes, q: usize) -> u64
 
 // The top entry is taken off.
 fn pop(words: &mut Words, bytes: &Bytes, t: usize)
-    requires { ⌜ Sized (now words) (now bytes) × (t < 16) × (0 < threadAt (stateIn words bytes) t .len) ⌝ }
+    requires { ⌜ Shaped (now words) (now bytes) × (t < 16) × (0 < threadAt (stateIn words bytes) t .len) ⌝ }
     ensures { λ u. ⌜ Leaves words bytes (withThread (before words bytes) t (popped (threadAt (before words bytes) t))) ⌝ }
 {
-    let len = stacks::len_at(words, t);
-    stacks::put_len(words, t, len - 1);
+    let len = tables::len_at(words, t);
+    tables::put_len(words, t, len - 1);
 }
 
 fn apply_exit(words: &mut Words, bytes: &Bytes, t: usize) -> u64

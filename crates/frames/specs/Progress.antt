@@ -7,7 +7,7 @@ use mathlib.Core.List.{List, [], _∷_, _++_}
 use lib.ListN.{length, take}
 use Rattle.reader.specs.Output.{firstWorld}
 use Rattle.reader.specs.Feeding.{joined}
-use Rattle.reader.specs.Held.{Core, Stands, held, Finishes}
+use Rattle.reader.specs.Held.{Core, Represents, held, Finishes}
 use Rattle.reader.specs.Program.{Fed}
 use Rattle.frames.specs.declared.Ended.{Ended}
 
@@ -72,7 +72,7 @@ pub record Ran (k₀ k₂ : Core) (input out₂ : List ℕ) (e : Ended) : Type 0
   pub line₁ : List ℕ
   pub len₁ : ℕ
   pub out₁ : List ℕ
-  pub first : Stands k₀ firstWorld
+  pub first : Represents k₀ firstWorld
   pub sized : length line₀ ≡ 40
   pub rounds : Progress k₀ line₀ k₁ line₁ len₁ (take (e .n) input) (e .kept)
   pub stopped : Stopped (e .n) (e .kept)

@@ -11,7 +11,7 @@ use lib.ListN.{length, take, length-append}
 use lib.Seq.{length-take-le}
 use Rattle.reader.specs.Output.{firstWorld}
 use Rattle.reader.specs.Feeding.{joined}
-use Rattle.reader.specs.Held.{Core, Stands, held, Feeds, Finishes}
+use Rattle.reader.specs.Held.{Core, Represents, held, Feeds, Finishes}
 use Rattle.reader.specs.Program.{Fed, none, more}
 use Rattle.frames.specs.declared.Ended.{Ended}
 use Rattle.frames.specs.Progress.{allSteps, reserve, Read, read, unread, Wrote, wrote, unwritten, Spent, spent, failed, Stopped, at-end, too-few, Continues, Last, no-chunk, last-chunk, Progress, Ran}
@@ -94,7 +94,7 @@ progress-more {a = a} {b = b} {s = s} {w = w} {chunk = chunk} {out₁ = out₁} 
 -- ---- the end of a run
 
 pub ran-failed : {k₀ k₁ : Core} {line₀ line₁ input out₁ : List ℕ} {len₁ n kept : ℕ}
-    → Stands k₀ firstWorld → length line₀ ≡ 40 → Progress k₀ line₀ k₁ line₁ len₁ (take n input) kept → Stopped n kept → 19 ≤ length out₁ → kept ≡ 0
+    → Represents k₀ firstWorld → length line₀ ≡ 40 → Progress k₀ line₀ k₁ line₁ len₁ (take n input) kept → Stopped n kept → 19 ≤ length out₁ → kept ≡ 0
     → Ran k₀ k₁ input out₁ (record { n = n; kept = kept; left = 0; sent = 0 })
 ran-failed {out₁ = out₁} f z p s m e = record {
   line₀ = _;
@@ -112,7 +112,7 @@ ran-failed {out₁ = out₁} f z p s m e = record {
 }
 
 pub ran-whole : {k₀ k₁ k₂ : Core} {line₀ line₁ input out₁ out₂ : List ℕ} {len₁ n kept left sent : ℕ}
-    → Stands k₀ firstWorld → length line₀ ≡ 40 → Progress k₀ line₀ k₁ line₁ len₁ (take n input) kept → Stopped n kept → 19 ≤ length out₁ → (kept ≡ 0 → ⊥)
+    → Represents k₀ firstWorld → length line₀ ≡ 40 → Progress k₀ line₀ k₁ line₁ len₁ (take n input) kept → Stopped n kept → 19 ≤ length out₁ → (kept ≡ 0 → ⊥)
     → Finishes (held k₁ line₁ len₁ out₁ 0) (held k₂ line₁ 0 out₂ sent) → Wrote kept left sent
     → Ran k₀ k₂ input out₂ (record { n = n; kept = kept; left = left; sent = sent })
 ran-whole {out₁ = out₁} f z p s m e g w = record {

@@ -5,10 +5,10 @@ use mathlib.Core.Path.{_≡_, subst}
 use mathlib.Core.List.{List, [], _++_, append-nil}
 use lib.ListN.{take}
 use Rattle.model.specs.Run.{run}
-use Rattle.lines.specs.LineLaws.{holds-none}
+use Rattle.lines.specs.LineLaws.{buffered-none}
 use Rattle.reader.specs.Output.{firstWorld, linesOf, outputOf}
 use Rattle.reader.specs.Feeding.{Feeding, fed, finished, joined, fed-chunks}
-use Rattle.reader.specs.Held.{Core, Stands}
+use Rattle.reader.specs.Held.{Core, Represents}
 use Rattle.reader.specs.Program.{After, fed-after, program}
 use Rattle.served.specs.Input.{elementsOf}
 use Rattle.served.proofs.Reader.{CoreClaims, chunks-claims, program-claims}
@@ -32,7 +32,7 @@ module _ {k₀ k₂ : Core} {input out₂ : List ℕ} {e : Ended} (r : Ran k₀ 
   after-rounds : After (r .k₁) (r .line₁) (r .len₁) (r .rounds .written) reached
   after-rounds =
       subst (After (r .k₁) (r .line₁) (r .len₁) (r .rounds .written)) (fed-chunks (r .rounds .chunks) firstWorld [])
-      (fed-after firstWorld [] (r .rounds .fed) (r .first) (holds-none (r .line₀) (r .sized)))
+      (fed-after firstWorld [] (r .rounds .fed) (r .first) (buffered-none (r .line₀) (r .sized)))
 
   -- ---- where nothing failed
 
@@ -41,8 +41,8 @@ module _ {k₀ k₂ : Core} {input out₂ : List ℕ} {e : Ended} (r : Ran k₀ 
   ran-output p = program (r .first) (r .sized) (r .rounds .fed) (r .room) (r .finishes p .0)
 
   -- and the core stands in the world after them
-  pub ran-stands : (e .kept ≡ 0 → ⊥) → Stands k₂ (finished (reached .world) (reached .line) .world)
-  ran-stands p = r .finishes p .0 .leaves (reached .world) (reached .line) (after-rounds .stands) (after-rounds .holds) .stands
+  pub ran-represents : (e .kept ≡ 0 → ⊥) → Represents k₂ (finished (reached .world) (reached .line) .world)
+  ran-represents p = r .finishes p .0 .leaves (reached .world) (reached .line) (after-rounds .represents) (after-rounds .buffered) .represents
 
   -- so every claim of the list theorem holds of it, with the lines of the calls of all frames
   pub ran-claims : (e .kept ≡ 0 → ⊥) → CoreClaims k₂ (run firstWorld (elementsOf (linesOf [] received)))
@@ -53,8 +53,8 @@ module _ {k₀ k₂ : Core} {input out₂ : List ℕ} {e : Ended} (r : Ran k₀ 
   pub failed-output : e .kept ≡ 0 → handed ≡ reached .output
   failed-output z = rw (r .fails z .1, append-nil (r .rounds .written)) (after-rounds .written-is)
 
-  pub failed-stands : e .kept ≡ 0 → Stands k₂ (reached .world)
-  failed-stands z = rw (r .fails z .0) (after-rounds .stands)
+  pub failed-represents : e .kept ≡ 0 → Represents k₂ (reached .world)
+  failed-represents z = rw (r .fails z .0) (after-rounds .represents)
 
   pub failed-claims : e .kept ≡ 0 → CoreClaims k₂ (reached .world)
   failed-claims z = rw (r .fails z .0) (chunks-claims (r .first) (r .sized) (r .rounds .fed))

@@ -11,10 +11,10 @@
 // `read_chunk` and `write_answers`, beyond their numbers of bytes and steps, since no contract says
 // which bytes `read` gave and `write` took; and that no other function calls `io` or `libc`, or
 // changes `steps` or the input (docs/DECISIONS.md, 51).
-use digits::digit::Text;
 use libc::STDERR_FILENO;
 use libc::STDIN_FILENO;
 use libc::STDOUT_FILENO;
+use lines::line::Text;
 use reader::feed::Fed;
 use tables::Bytes;
 use tables::Words;
@@ -24,9 +24,10 @@ ghost use lib.ListN.{length, take, replicate};
 ghost use Rattle.io.specs.Counts.{Counts};
 ghost use Rattle.tables.specs.Contract.{Ready};
 ghost use Rattle.reader.specs.Output.{firstWorld};
-ghost use Rattle.reader.specs.Held.{core, Stands};
-ghost use Rattle.frames.specs.Clauses.{coreIn, coreOut, ChunkFed, InputEnded};
-ghost use Rattle.frames.specs.Progress.{Read, Wrote, Continues, Ran};
+ghost use Rattle.reader.specs.Held.{core, Represents};
+ghost use Rattle.reader.specs.Clauses.{BytesFed, InputEnded};
+ghost use Rattle.frames.specs.Progress.{Read, Wrote, Continues};
+ghost use Rattle.frames.specs.Clauses.{AllAnswered};
 
 // Room for the answers to a chunk. No other buffer has this type, so what is written is the start of
 // this one.
@@ -89,7 +90,7 @@ fn answer_chunk(
 ) -> Fed
     requires { ⌜ (Ready (now words) (now bytes)) × (length (now line) ≡ 40) × (19 * length (now input) ≤ length (now output)) ⌝ }
     requires { ⌜ (Counts n (now input)) × (19 * n < now steps) ⌝ }
-    ensures { λ r. ⌜ ChunkFed words bytes permanent scratch map line len output (r .len) (r .written) (take n (now (input .entry))) ⌝ }
+    ensures { λ r. ⌜ BytesFed words bytes permanent scratch map line len output 0 (take n (now (input .entry))) r ⌝ }
     ensures { λ r. ⌜ Wrote (now (steps .entry)) (now (steps .exit)) (r .written) ⌝ }
 {
     let fed = reader::feed::feed(
@@ -150,8 +151,8 @@ fn answer_all(
     output: &mut Output,
 ) -> Ended
     requires { ⌜ (Ready (now words) (now bytes)) × (length (now input) ≡ 16384) × (19 * length (now input) ≤ length (now output)) ⌝ }
-    requires { ⌜ Stands (core (now words) (now bytes) (now permanent) (now scratch) (now map)) firstWorld ⌝ }
-    ensures { λ r. ⌜ Ran (coreIn words bytes permanent scratch map) (coreOut words bytes permanent scratch map) (now (input .exit)) (now (output .exit)) r ⌝ }
+    requires { ⌜ Represents (core (now words) (now bytes) (now permanent) (now scratch) (now map)) firstWorld ⌝ }
+    ensures { λ r. ⌜ AllAnswered words bytes permanent scratch map input output r ⌝ }
 {
     let mut line = [0u8; 40];
     let mut len = 0;

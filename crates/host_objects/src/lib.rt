@@ -1,7 +1,7 @@
 // The core for C and Rust, second part: ops 06 to 0a: an object is allocated, its slots are stored and
 // loaded, its data words written and read; and its data as a part of its store. What a call is lent and
 // promises is as in `host_state`.
-use layout::stack::Answer;
+use layout::answer::Answer;
 use tables::Bytes;
 use tables::Words;
 use views::ViewPlace;

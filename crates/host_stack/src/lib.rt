@@ -1,5 +1,5 @@
 // One thread's scope stack as a record that is lent.
-use layout::stack::Answer;
+use layout::answer::Answer;
 use layout::stack::ScopeStack;
 ghost use mathlib.Core.Path.{_≡_};
 ghost use Rattle.layout.specs.Stack.{emptyStack, pushAnswer, pushedStack, popAnswer, poppedStack};

@@ -5,7 +5,7 @@
 // them to each call. Beside that a call asks one thing, `Usable`: that the tables are those that
 // set-up gave and that calls alone have changed since. Every call leaves it for the next. What the
 // buffers hold is free. What a call answers and leaves is the one contract of any call, `Answers`.
-use layout::stack::Answer;
+use layout::answer::Answer;
 use setup::SetUp;
 use tables::Bytes;
 use tables::Words;

@@ -3,5 +3,8 @@ pub mod Choice
 pub mod Handle
 pub mod Header
 pub mod HandleLaws
+pub mod Answer
 pub mod Stack
 pub mod StackLaws
+pub mod Display
+pub mod DisplayLaws

@@ -5,15 +5,9 @@ use Prim.Native.Nat.{ℕ, zero, suc, _+_, _-_, min}
 use lib.Dec.{eqb, leb, ltb}
 use lib.ListN.{set, getD, replicate}
 use Rattle.layout.specs.Choice.{pick}
-use Rattle.layout.specs.declared.stack.Answer.{Answer}
+use Rattle.layout.specs.declared.answer.Answer.{Answer}
+use Rattle.layout.specs.Answer.{accepted, refused}
 use Rattle.layout.specs.declared.stack.ScopeStack.{ScopeStack}
-
--- "Each call gives status 0 and a value, or a refusal and 0."
-abbrev pub accepted : ℕ → Answer
-accepted v = record { status = 0; value = v }
-
-abbrev pub refused : ℕ → Answer
-refused n = record { status = n; value = 0 }
 
 -- "It begins empty"
 abbrev pub emptyStack : ScopeStack

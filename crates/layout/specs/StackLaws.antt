@@ -7,7 +7,8 @@ use native.Mathlib.Omega.{arith}
 use borrow.Author.Tests.{lt-ltb, le-ltb, le-leb, lt-leb, eq-eqb, ne-eqb}
 use lib.ListN.{length, getD, set}
 use lib.Seq.{getD-set-same, getD-set-other}
-use Rattle.layout.specs.Stack.{accepted, refused, heightOf, down, stackOf, pushAnswer, pushedStack, popAnswer, poppedStack}
+use Rattle.layout.specs.Answer.{accepted, refused}
+use Rattle.layout.specs.Stack.{heightOf, down, stackOf, pushAnswer, pushedStack, popAnswer, poppedStack}
 use Rattle.layout.specs.declared.stack.ScopeStack.{ScopeStack}
 
 -- ---- down

@@ -1,4 +1,5 @@
 // One thread's scope stack as a record of its own, by value, and places on a stack.
+use crate::answer::Answer;
 ghost use mathlib.Core.Path.{_≡_};
 ghost use Rattle.layout.specs.Stack.{emptyStack, heightOf, pushAnswer, pushedStack, popAnswer, poppedStack};
 
@@ -13,13 +14,6 @@ pub struct ScopeStack {
     pub entries: [u8; 32],
 }
 
-// What a call answers: status 0 and a value, or a refusal and 0.
-#[repr(C)]
-pub struct Answer {
-    pub status: u64,
-    pub value: u64,
-}
-
 pub fn empty() -> ScopeStack
     ensures { λ r. ⌜ r ≡ emptyStack ⌝ }
 {
@@ -30,7 +24,7 @@ pub fn empty() -> ScopeStack
 }
 
 // The place above the top: no more than 32 entries count, whatever the record says.
-pub fn height(s: ScopeStack) -> Place
+fn height(s: ScopeStack) -> Place
     ensures { λ r. ⌜ r .0 ≡ heightOf s ⌝ }
 {
     if s.len < 32 {

@@ -1,78 +1,76 @@
 -- Laws of lines that are a frame or are none.
 -- Assumes nothing.
 use mathlib.Core.Path.{_≡_, refl, sym, ap, _∙_}
-use mathlib.Core.Bool.{true, false, _||_}
+use mathlib.Core.Bool.{Bool, true, false, _||_}
 use mathlib.Core.List.{List}
-use Prim.Native.Nat.{ℕ, _<_, min}
+use Prim.Native.Nat.{ℕ, min}
 use native.Mathlib.Omega.{arith}
 use lib.Dec.{eqb}
 use borrow.Author.Tests.{eq-eqb, ne-eqb}
 use lib.ListN.{length, take}
 use lib.Seq.{take-all}
-use Rattle.digits.specs.Hexadecimal.{allDigits}
+use Rattle.model.specs.declared.Opcode.{Opcode}
+use Rattle.model.specs.declared.Opcode.the-variants.{Known, Unknown}
+use Rattle.model.specs.declared.Op.{Op}
+use Rattle.model.specs.Ops.{opOf}
+use Rattle.lines.specs.Hexadecimal.{allDigits}
 use Rattle.lines.specs.declared.frame.Fields.{Fields}
-use Rattle.lines.specs.Frames.{fieldsOf, isOp, usesP, usesQ, usesR, unusedZero, isFrame}
-use Rattle.lines.specs.Lines.{Holds}
+use Rattle.lines.specs.declared.frame.Parsed.{Parsed}
+use Rattle.lines.specs.declared.frame.Parsed.the-variants.{Frame, Bad}
+use Rattle.lines.specs.Frames.{opcodeOf, fieldsOf, unusedZero, framed, parsedOf}
+use Rattle.lines.specs.Lines.{Buffered}
 
--- ---- frames
+-- ---- a line, by the bytes that are kept of it
 
--- the four tests of a frame, on 40 bytes
-module _ (l : List ℕ) (e : length l ≡ 40) where
-  no-digits : allDigits l ≡ false → isFrame l ≡ false
-  unfolding isFrame
-  no-digits d = rw (eq-eqb (length l) 40 e, d) refl
-
-  no-op : allDigits l ≡ true → isOp (fieldsOf l .op) ≡ false → isFrame l ≡ false
-  unfolding isFrame
-  no-op d o = rw (eq-eqb (length l) 40 e, d, o) refl
-
-  not-zero : allDigits l ≡ true → isOp (fieldsOf l .op) ≡ true → unusedZero (fieldsOf l) ≡ false → isFrame l ≡ false
-  unfolding isFrame
-  not-zero d o z = rw (eq-eqb (length l) 40 e, d, o, z) refl
-
-  a-frame : allDigits l ≡ true → isOp (fieldsOf l .op) ≡ true → unusedZero (fieldsOf l) ≡ true → isFrame l ≡ true
-  unfolding isFrame
-  a-frame d o z = rw (eq-eqb (length l) 40 e, d, o, z) refl
-
-module _ {line : List ℕ} {len : ℕ} {l : List ℕ} (h : Holds line len l) where
+module _ {line : List ℕ} {len : ℕ} {l : List ℕ} (h : Buffered line len l) where
   -- a longer line is no frame whatever it holds, and neither is a shorter one
-  pub other-length : (len ≡ 40 → ⊥) → isFrame l ≡ false
-  unfolding isFrame
+  pub other-length : (len ≡ 40 → ⊥) → Bad ≡ parsedOf l
+  unfolding parsedOf
   other-length n = rw (ne-eqb (length l) 40 (λ e. n (omega (arith, h .count, e)))) refl
 
   -- 40 bytes are kept whole
-  pub whole : len ≡ 40 → line ≡ l
+  whole : len ≡ 40 → line ≡ l
   whole e =
       let m : min len 40 ≡ 40 = omega arith in
       sym (take-all 40 line (omega (arith, h .sized)))
       ∙ ap (λ (n : ℕ). take n line) (sym m) ∙ h .bytes
       ∙ take-all 40 l (omega (arith, h .count))
 
-  -- what the line says where the tests of the bytes that are kept end so
-  pub kept-no-digits : len ≡ 40 → allDigits line ≡ false → isFrame l ≡ false
-  kept-no-digits e d = rw (← whole e) (no-digits line (h .sized) d)
+  pub no-digits : len ≡ 40 → allDigits line ≡ false → Bad ≡ parsedOf l
+  unfolding parsedOf
+  no-digits e d = rw (← whole e, eq-eqb (length line) 40 (h .sized), d) refl
 
-  module _ (e : len ≡ 40) (f : Fields) (g : f ≡ fieldsOf line) (d : allDigits line ≡ true) where
-    pub kept-no-op : isOp (f .op) ≡ false → isFrame l ≡ false
-    kept-no-op o = rw (← whole e) (no-op line (h .sized) d (rw g at o))
+  -- digits are what their op makes of them
+  module _ (e : len ≡ 40) (d : allDigits line ≡ true) where
+    digits : framed line (opOf (opcodeOf line)) ≡ parsedOf l
+    unfolding parsedOf
+    digits = rw (← whole e, eq-eqb (length line) 40 (h .sized), d) refl
 
-    pub kept-not-zero : isOp (f .op) ≡ true → unusedZero f ≡ false → isFrame l ≡ false
-    kept-not-zero o z = rw (← whole e) (not-zero line (h .sized) d (rw g at o) (rw g at z))
+    module _ (c : Opcode) (k : c ≡ opOf (opcodeOf line)) where
+      pub no-op : c ≡ Unknown → Bad ≡ parsedOf l
+      unfolding framed
+      no-op u = ap (framed line) (sym u ∙ k) ∙ digits
 
-    pub kept-frame : isOp (f .op) ≡ true → unusedZero f ≡ true → (isFrame l ≡ true) × (f ≡ fieldsOf l)
-    kept-frame o z = rw (← whole e) (a-frame line (h .sized) d (rw g at o) (rw g at z), g)
+      module _ (o : Op) (p q r : Bool) (u : c ≡ Known o p q r) (f : Fields) (g : f ≡ fieldsOf o line) where
+        pub not-zero : unusedZero f p q r ≡ false → Bad ≡ parsedOf l
+        unfolding framed
+        not-zero z = rw (rw g at z) at (ap (framed line) (sym u ∙ k) ∙ digits)
+
+        pub a-frame : unusedZero f p q r ≡ true → Frame f ≡ parsedOf l
+        unfolding framed
+        a-frame z = rw g (rw (rw g at z) at (ap (framed line) (sym u ∙ k) ∙ digits))
 
 -- ---- unused fields
 
-module _ (f : Fields) where
-  pub p-not-zero : usesP (f .op) || eqb (f .p) 0 ≡ false → false ≡ unusedZero f
+module _ (f : Fields) (p q r : Bool) where
+  pub p-not-zero : p || eqb (f .p) 0 ≡ false → false ≡ unusedZero f p q r
   unfolding unusedZero
   p-not-zero e = simp e
 
-  pub q-not-zero : usesP (f .op) || eqb (f .p) 0 ≡ true → usesQ (f .op) || eqb (f .q) 0 ≡ false → false ≡ unusedZero f
+  pub q-not-zero : p || eqb (f .p) 0 ≡ true → q || eqb (f .q) 0 ≡ false → false ≡ unusedZero f p q r
   unfolding unusedZero
   q-not-zero d e = simp (d, e)
 
-  pub r-decides : usesP (f .op) || eqb (f .p) 0 ≡ true → usesQ (f .op) || eqb (f .q) 0 ≡ true → usesR (f .op) || eqb (f .r) 0 ≡ unusedZero f
+  pub r-decides : p || eqb (f .p) 0 ≡ true → q || eqb (f .q) 0 ≡ true → r || eqb (f .r) 0 ≡ unusedZero f p q r
   unfolding unusedZero
   r-decides d e = simp (d, e)

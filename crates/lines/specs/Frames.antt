@@ -3,33 +3,34 @@
 use Prim.Native.Nat.{ℕ}
 use mathlib.Core.Bool.{Bool, _&&_, _||_}
 use mathlib.Core.List.{List}
-use lib.Dec.{eqb, leb}
+use lib.Dec.{eqb}
 use lib.ListN.{length}
-use Rattle.digits.specs.Hexadecimal.{allDigits, fieldOf}
+use Rattle.layout.specs.Choice.{pick}
+use Rattle.model.specs.declared.Op.{Op}
+use Rattle.model.specs.declared.Opcode.{Opcode}
+use Rattle.model.specs.declared.Opcode.the-variants.{Known, Unknown}
+use Rattle.model.specs.Ops.{opOf}
+use Rattle.lines.specs.Hexadecimal.{allDigits, fieldOf}
 use Rattle.lines.specs.declared.frame.Fields.{Fields}
+use Rattle.lines.specs.declared.frame.Parsed.{Parsed}
+use Rattle.lines.specs.declared.frame.Parsed.the-variants.{Frame, Bad}
 
 -- "op 2 .., thread 2, p 16, q 4, r 16"
-unfoldable pub fieldsOf : List ℕ → Fields
-fieldsOf l = record { op = fieldOf l 0 2; thread = fieldOf l 2 2; p = fieldOf l 4 16; q = fieldOf l 20 4; r = fieldOf l 24 16 }
+abbrev pub opcodeOf : List ℕ → ℕ
+opcodeOf l = fieldOf l 0 2
 
--- "(one that exists)": ops 01 to 0a
-abbrev pub isOp : ℕ → Bool
-isOp op = leb 1 op && leb op 10
+unfoldable pub fieldsOf : Op → List ℕ → Fields
+fieldsOf o l = record { op = o; thread = fieldOf l 2 2; p = fieldOf l 4 16; q = fieldOf l 20 4; r = fieldOf l 24 16 }
 
--- the column "call (fields used)"; the thread is used by every op
-unfoldable pub usesP : ℕ → Bool
-usesP op = eqb op 1 || leb 7 op
+-- "unused fields are 0", where p, q and r say which are used
+unfoldable pub unusedZero : Fields → (p q r : Bool) → Bool
+unusedZero f p q r = (p || eqb (f .p) 0) && ((q || eqb (f .q) 0) && (r || eqb (f .r) 0))
 
-unfoldable pub usesQ : ℕ → Bool
-usesQ op = eqb op 3 || (eqb op 4 || leb 6 op)
+-- what 40 digits are, by what their op stands for
+unfoldable pub framed : List ℕ → Opcode → Parsed
+framed l (Known o p q r) = pick (unusedZero (fieldsOf o l) p q r) (Frame (fieldsOf o l)) Bad
+framed l Unknown = Bad
 
-unfoldable pub usesR : ℕ → Bool
-usesR op = eqb op 3 || (eqb op 6 || (eqb op 7 || eqb op 9))
-
--- "unused fields are 0"
-unfoldable pub unusedZero : Fields → Bool
-unusedZero f = (usesP (f .op) || eqb (f .p) 0) && ((usesQ (f .op) || eqb (f .q) 0) && (usesR (f .op) || eqb (f .r) 0))
-
--- "A frame is 40 lower-case hexadecimal digits"
-unfoldable pub isFrame : List ℕ → Bool
-isFrame l = eqb (length l) 40 && (allDigits l && (isOp (fieldsOf l .op) && unusedZero (fieldsOf l)))
+-- what a whole line is: "A frame is 40 lower-case hexadecimal digits .. op 2 (one that exists)"; the line feed is taken off
+unfoldable pub parsedOf : List ℕ → Parsed
+parsedOf l = pick (eqb (length l) 40 && allDigits l) (framed l (opOf (opcodeOf l))) Bad

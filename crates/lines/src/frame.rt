@@ -1,18 +1,20 @@
-// The five fields of a line, and whether the line is a frame.
-use digits::digit::Text;
+// The fields of a line, and whether the line is a frame.
+use crate::line::Text;
+use model::Op;
+use model::Opcode;
 ghost use mathlib.Core.Path.{_≡_};
 ghost use mathlib.Core.Bool.{true, _||_};
 ghost use mathlib.Core.List.{List};
 ghost use Prim.Native.Nat.{ℕ};
 ghost use lib.Dec.{eqb};
 ghost use lib.ListN.{length};
-ghost use Rattle.digits.specs.Hexadecimal.{allDigits};
-ghost use Rattle.lines.specs.Frames.{fieldsOf, isOp, usesP, usesQ, usesR, unusedZero};
-ghost use Rattle.lines.specs.Lines.{Holds, lineOf};
+ghost use Rattle.lines.specs.Hexadecimal.{allDigits};
+ghost use Rattle.lines.specs.Frames.{fieldsOf, unusedZero, parsedOf};
+ghost use Rattle.lines.specs.Lines.{Buffered};
 
-// A line of 40 digits: op 2, thread 2, p 16, q 4, r 16.
+// A frame: op 2 digits, thread 2, p 16, q 4, r 16.
 pub struct Fields {
-    pub op: u64,
+    pub op: Op,
     pub thread: u64,
     pub p: u64,
     pub q: u64,
@@ -20,56 +22,23 @@ pub struct Fields {
 }
 
 // What a line is.
-pub enum Line {
+pub enum Parsed {
     Frame(Fields),
     Bad,
 }
 
-fn read_fields(line: &Text) -> Fields
+// The other fields of a line whose op is known.
+fn read_fields(line: &Text, op: Op) -> Fields
     requires { ⌜ (length (now line) ≡ 40) × (allDigits (now line) ≡ true) ⌝ }
-    ensures { λ r. ⌜ r ≡ fieldsOf (now (line .entry)) ⌝ }
+    ensures { λ r. ⌜ r ≡ fieldsOf op (now (line .entry)) ⌝ }
 {
     Fields {
-        op: digits::digit::field(line, 0, 2),
-        thread: digits::digit::field(line, 2, 2),
-        p: digits::digit::field(line, 4, 16),
-        q: digits::digit::field(line, 20, 4),
-        r: digits::digit::field(line, 24, 16),
+        op: op,
+        thread: crate::digit::field(line, 2, 2),
+        p: crate::digit::field(line, 4, 16),
+        q: crate::digit::field(line, 20, 4),
+        r: crate::digit::field(line, 24, 16),
     }
-}
-
-// Ops 01 to 0a.
-fn is_op(op: u64) -> bool
-    ensures { λ r. ⌜ r ≡ isOp op ⌝ }
-{
-    1 <= op && op <= 10
-}
-
-fn uses_p(op: u64) -> bool
-    ensures { λ r. ⌜ r ≡ usesP op ⌝ }
-{
-    op == 1 || 7 <= op
-}
-
-fn uses_q(op: u64) -> bool
-    ensures { λ r. ⌜ r ≡ usesQ op ⌝ }
-{
-    if op == 3 {
-        return true;
-    }
-    op == 4 || 6 <= op
-}
-
-fn uses_r(op: u64) -> bool
-    ensures { λ r. ⌜ r ≡ usesR op ⌝ }
-{
-    if op == 3 {
-        return true;
-    }
-    if op == 6 {
-        return true;
-    }
-    op == 7 || op == 9
 }
 
 // Used, or 0.
@@ -79,37 +48,37 @@ fn used_or_zero(used: bool, x: u64) -> bool
     used || x == 0
 }
 
-// Unused fields are 0.
-pub fn unused_zero(f: Fields) -> bool
-    ensures { λ r. ⌜ r ≡ unusedZero f ⌝ }
+// Unused fields are 0, where p, q and r say which are used.
+fn unused_zero(f: Fields, p: bool, q: bool, r: bool) -> bool
+    ensures { λ z. ⌜ z ≡ unusedZero f p q r ⌝ }
 {
-    if !used_or_zero(uses_p(f.op), f.p) {
+    if !used_or_zero(p, f.p) {
         return false;
     }
-    if !used_or_zero(uses_q(f.op), f.q) {
+    if !used_or_zero(q, f.q) {
         return false;
     }
-    used_or_zero(uses_r(f.op), f.r)
+    used_or_zero(r, f.r)
 }
 
 // What the line so far says as a whole line: its first bytes are kept, and len is 41 for every line
 // that is longer than 40.
-pub fn parse_line(line: &Text, len: usize) -> Line
+pub fn parse_line(line: &Text, len: usize) -> Parsed
     requires { ⌜ length (now line) ≡ 40 ⌝ }
-    ensures { λ r. ⌜ ((l : List ℕ) → Holds (now (line .entry)) len l → r ≡ lineOf l) ⌝ }
+    ensures { λ r. ⌜ ((l : List ℕ) → Buffered (now (line .entry)) len l → r ≡ parsedOf l) ⌝ }
 {
     if len != 40 {
-        return Line::Bad;
+        return Parsed::Bad;
     }
-    if !digits::digit::all_digits(line) {
-        return Line::Bad;
+    if !crate::digit::all_digits(line) {
+        return Parsed::Bad;
     }
-    let f = read_fields(line);
-    if !is_op(f.op) {
-        return Line::Bad;
+    let Opcode::Known(op, p, q, r) = crate::op::op_of(crate::digit::field(line, 0, 2)) else {
+        return Parsed::Bad;
+    };
+    let f = read_fields(line, op);
+    if !unused_zero(f, p, q, r) {
+        return Parsed::Bad;
     }
-    if !unused_zero(f) {
-        return Line::Bad;
-    }
-    Line::Frame(f)
+    Parsed::Frame(f)
 }

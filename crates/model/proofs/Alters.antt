@@ -9,7 +9,7 @@ use lib.Dec.{eqb, leb}
 use native.Mathlib.Omega.{arith}
 use borrow.Author.Tests.{eqb-true, eqb-false, leb-true, leb-false, le-leb, lt-leb, lt-ltb, le-ltb}
 use Rattle.layout.specs.Choice.{cases}
-use Rattle.display.specs.Display.{extendedRow}
+use Rattle.layout.specs.Display.{extendedRow}
 use Rattle.model.specs.declared.Area.{Area}
 use Rattle.model.specs.State.{Thread, State, areaAt, rowAt, threadAt, withKind, withArea, withRow, withThread, withTaken, stackAt, innermost}
 use Rattle.model.specs.Threads.{startState, endState}

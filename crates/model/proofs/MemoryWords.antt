@@ -13,8 +13,8 @@ use Rattle.layout.specs.Choice.{cases, and-true}
 use Rattle.layout.specs.Handle.{null, offsetOf, areaOf}
 use Rattle.layout.specs.Header.{slotsOf, dataOf}
 use Rattle.layout.specs.HandleLaws.{area-lt}
-use Rattle.display.specs.Display.{rowHolds}
-use Rattle.display.specs.DisplayLaws.{holds-entry}
+use Rattle.layout.specs.Display.{rowHolds}
+use Rattle.layout.specs.DisplayLaws.{holds-entry}
 use Rattle.model.specs.State.{State, Memory, areaAt, rowAt, displayAt, displayHolds, storeOf, withStore, wordAt}
 use Rattle.model.specs.Checks.{headerAt, live, isReference}
 use Rattle.model.specs.References.{mayRefer, wordAfter, storeAfter}

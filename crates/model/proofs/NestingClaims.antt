@@ -10,7 +10,7 @@ use lib.Dec.{leb, ltb}
 use native.Mathlib.Omega.{arith}
 use borrow.Author.Tests.{eqb-true, eq-eqb, ltb-true, ltb-false, leb-true, leb-false, le-leb, lt-ltb}
 use Rattle.layout.specs.Choice.{cases, and-true}
-use Rattle.display.specs.Display.{rowHolds}
+use Rattle.layout.specs.Display.{rowHolds}
 use Rattle.layout.specs.Stack.{down}
 use Rattle.layout.specs.StackLaws.{length-down}
 use Rattle.model.specs.declared.Area.{Area}

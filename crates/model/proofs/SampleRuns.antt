@@ -10,7 +10,7 @@ use Rattle.layout.specs.Header.{headerOf, slotsOf, dataOf}
 use Rattle.layout.specs.Stack.{down}
 use Rattle.bitmap.specs.Bitmap.{bitAt, withBit, withoutBit, cleared}
 use Rattle.rights.specs.Rights.{classOf, rightsRows, rightDigit, allows}
-use Rattle.display.specs.Display.{rowHolds}
+use Rattle.layout.specs.Display.{rowHolds}
 use Rattle.model.specs.State.{State, Memory, noArea, withWords, withUsed, withGeneration, withCount, withParent, withKind, withStack, withArea, withRow, withThread, withTaken, entriesOf, innermost, isMade, displayHolds, withStore}
 use Rattle.model.specs.SetUp.{standing, newThread, firstState}
 use Rattle.model.specs.Checks.{fits, fitted, called, hasRight, live, isObject, isReference, useRest}

@@ -8,6 +8,7 @@ pub mod Objects
 pub mod References
 pub mod Data
 pub mod Calls
+pub mod Ops
 pub mod Run
 pub mod History
 pub mod Values

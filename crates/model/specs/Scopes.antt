@@ -5,7 +5,7 @@ use mathlib.Core.Bool.{Bool, not, _&&_, _||_}
 use lib.Dec.{eqb, leb, ltb}
 use lib.ListN.{set}
 use Rattle.layout.specs.Choice.{pick, refuse}
-use Rattle.display.specs.Display.{extendedRow}
+use Rattle.layout.specs.Display.{extendedRow}
 use Rattle.rights.specs.declared.Right.the-variants.{Enter}
 use Rattle.model.specs.declared.Area.{Area}
 use Rattle.model.specs.State.{Thread, State, areaAt, rowAt, threadAt, withWords, withUsed, withGeneration, withCount, withParent, withStack, withArea, withRow, withThread, withTaken, entriesOf, stackAt, current, innermost, isScope, isMade, isOpen}

@@ -6,7 +6,7 @@ use mathlib.Core.List.{List, [], _∷_}
 use lib.Dec.{leb, ltb}
 use lib.ListN.{getD, set}
 use Rattle.layout.specs.Choice.{pick}
-use Rattle.display.specs.Display.{rowHolds}
+use Rattle.layout.specs.Display.{rowHolds}
 use Rattle.layout.specs.Stack.{down}
 use Rattle.model.specs.declared.Area.{Area}
 use Rattle.model.specs.declared.Lengths.{Lengths}

@@ -1,5 +1,5 @@
 // What is right: the machine of document 01 in definitions, and the theorem over every list of
-// calls. There is no code here but the records that the definitions share with the code.
+// calls. There is no code here but the types that the definitions share with the code.
 
 // An area: where its words start in its store, how many it has, how many are used, its generation,
 // its reference count, its parent (0 for none) and its depth (0 unless it is an open scope).
@@ -18,4 +18,24 @@ pub struct Lengths {
     pub permanent: u64,
     pub scratch: u64,
     pub map: u64,
+}
+
+// The ops, 01 to 0a.
+pub enum Op {
+    Start,
+    End,
+    Make,
+    Enter,
+    Exit,
+    Allocate,
+    Store,
+    Load,
+    Write,
+    Read,
+}
+
+// What the number of an op stands for: an op, and whether it uses the fields p, q and r.
+pub enum Opcode {
+    Known(Op, bool, bool, bool),
+    Unknown,
 }

@@ -15,7 +15,7 @@ use Rattle.bitmap.specs.Bitmap.{bitAt}
 use Rattle.model.specs.State.{State, Memory, areaAt, isScope, isOpen, storeOf, bitIndex}
 use Rattle.model.specs.Checks.{fits, headerAt, live, isObject, isReference}
 use Rattle.model.specs.Invariant.{Good}
-use Rattle.model.proofs.PlacedWords.{low-inside, SuppliedLengths, supplied-lengths}
+use Rattle.model.proofs.PlacedWords.{inside, SuppliedLengths, supplied-lengths}
 use Rattle.objects.specs.declared.find.Resolved.{Resolved}
 use Rattle.objects.specs.declared.find.Found.{Found}
 use Rattle.objects.specs.declared.find.Found.the-variants.{At, Nothing}
@@ -34,15 +34,15 @@ pub record Within (s : State) (m : Memory) (a : ℕ) : Type 0 where
 pub within : (s : State) (m : Memory) → Good s → fits s m ≡ true → (a : ℕ) → a < 64 → Within s m a
 within s m g f a k =
     cases (leb 2 a)
-    (λ e. let b = g .placed .below a (leb-true 2 a e) k in record {
-      used = g .placed .used a k;
-      words = rw e (omega (arith, b, p .taken, l .scratch));
-      low = omega (arith, b, p .taken, p .scratch);
+    (λ e. let b = rw e at (inside s p a k) in record {
+      used = p .used a k;
+      words = rw e (omega (arith, b, l .scratch));
+      low = omega (arith, b, p .scratch);
       first = p .permanent;
-      bits = rw e (omega (arith, b, p .taken, p .map, l .map));
+      bits = rw e (omega (arith, b, p .map, l .map));
     })
-    (λ e. let b = low-inside s (g .placed) a (leb-false 2 a e) in record {
-      used = g .placed .used a k;
+    (λ e. let b = rw e at (inside s p a k) in record {
+      used = p .used a k;
       words = rw e (omega (arith, b, l .permanent));
       low = omega (arith, b, p .permanent);
       first = p .permanent;

@@ -5,18 +5,16 @@ use mathlib.Core.List.{List, [], _++_}
 use Prim.Native.Nat.{ℕ, _+_, _*_, _≤_}
 use native.Mathlib.Omega.{arith}
 use lib.ListN.{length, length-append}
-use Rattle.layout.specs.declared.stack.Answer.{Answer}
-use Rattle.model.specs.Run.{World, kept, step}
-use Rattle.model.specs.Calls.{outcomeOf}
+use lib.Seq.{sets}
+use Rattle.layout.specs.declared.answer.Answer.{Answer}
+use Rattle.model.specs.Run.{World}
 use Rattle.tables.specs.Decode.{stateOf}
 use Rattle.tables.specs.Contract.{memoryOf, Ready}
-use Rattle.tables.specs.Cut.{put}
-use Rattle.lines.specs.declared.frame.Fields.{Fields}
-use Rattle.digits.specs.Answers.{answerOf}
-use Rattle.reader.specs.Output.{callOf, lineAnswer, afterLine}
-use Rattle.lines.specs.Lines.{Holds}
+use Rattle.lines.specs.Answers.{answerOf}
+use Rattle.reader.specs.Output.{lineAnswer, afterLine}
+use Rattle.lines.specs.Lines.{Buffered}
 use Rattle.reader.specs.Feeding.{Feeding, after, fed, finished, fed-none, fed-append}
-use Rattle.digits.specs.AnswerLaws.{put-put, put-nothing}
+use Rattle.lines.specs.AnswerLaws.{sets-sets}
 
 -- the tables and the three lent buffers
 pub record Core : Type 0 where
@@ -30,28 +28,21 @@ abbrev pub core : List ℕ → List ℕ → List ℕ → List ℕ → List ℕ �
 core w b p s m = record { words = w; bytes = b; permanent = p; scratch = s; map = m }
 
 -- they hold the state and the memory of a world
-pub record Stands (k : Core) (w : World) : Type 0 where
+pub record Represents (k : Core) (w : World) : Type 0 where
   pub state : stateOf (k .words) (k .bytes) ≡ w .state
   pub memory : memoryOf (k .permanent) (k .scratch) (k .map) ≡ w .memory
-
--- a call is carried out: the answer is that of the call's outcome, and what it leaves is a step
-pub record Called (k n : Core) (f : Fields) (a : Answer) : Type 0 where
-  pub ready : Ready (n .words) (n .bytes)
-  pub status-is : (w : World) → Stands k w → a .status ≡ outcomeOf (w .state) (w .memory) (callOf f) .reply .status
-  pub value-is : (w : World) → Stands k w → a .value ≡ outcomeOf (w .state) (w .memory) (callOf f) .reply .value
-  pub steps : (w : World) → Stands k w → Stands n (step w (record { call = callOf f; supplied = kept }))
 
 -- a line is answered
 pub record LineAnswered (k n : Core) (line : List ℕ) (len : ℕ) (a : Answer) : Type 0 where
   pub ready : Ready (n .words) (n .bytes)
-  pub answer-is : (w : World) (l : List ℕ) → Stands k w → Holds line len l → answerOf (a .status) (a .value) ≡ lineAnswer w l
-  pub steps : (w : World) (l : List ℕ) → Stands k w → Holds line len l → Stands n (afterLine w l)
+  pub answer-is : (w : World) (l : List ℕ) → Represents k w → Buffered line len l → answerOf (a .status) (a .value) ≡ lineAnswer w l
+  pub steps : (w : World) (l : List ℕ) → Represents k w → Buffered line len l → Represents n (afterLine w l)
 
 -- a line is answered, and the answer is written from place at on
 pub record Ended (k n : Core) (line : List ℕ) (len : ℕ) (out : List ℕ) (at : ℕ) (written : List ℕ) : Type 0 where
   pub ready : Ready (n .words) (n .bytes)
-  pub output-is : (w : World) (l : List ℕ) → Stands k w → Holds line len l → written ≡ put out at (lineAnswer w l)
-  pub steps : (w : World) (l : List ℕ) → Stands k w → Holds line len l → Stands n (afterLine w l)
+  pub output-is : (w : World) (l : List ℕ) → Represents k w → Buffered line len l → written ≡ sets out at (lineAnswer w l)
+  pub steps : (w : World) (l : List ℕ) → Represents k w → Buffered line len l → Represents n (afterLine w l)
 
 -- the core, the line so far, and the output with the place of the next answer
 pub record Held : Type 0 where
@@ -66,10 +57,10 @@ held k line len output at = record { core = k; line = line; len = len; output = 
 
 -- x holds what feeding leaves of e
 pub record Leaves (e x : Held) (f : Feeding) : Type 0 where
-  pub stands : Stands (x .core) (f .world)
-  pub holds : Holds (x .line) (x .len) (f .line)
+  pub represents : Represents (x .core) (f .world)
+  pub buffered : Buffered (x .line) (x .len) (f .line)
   pub at-is : x .at ≡ e .at + length (f .output)
-  pub output-is : x .output ≡ put (e .output) (e .at) (f .output)
+  pub output-is : x .output ≡ sets (e .output) (e .at) (f .output)
 
 -- feeding the input leads from e to x, whatever world and line e stands for
 pub record Feeds (e x : Held) (input : List ℕ) : Type 0 where
@@ -77,19 +68,19 @@ pub record Feeds (e x : Held) (input : List ℕ) : Type 0 where
   pub sized : length (x .line) ≡ 40
   pub long : length (x .output) ≡ length (e .output)
   pub room : x .at ≤ e .at + 19 * length input
-  pub leaves : (w : World) (l : List ℕ) → Stands (e .core) w → Holds (e .line) (e .len) l → Leaves e x (fed w l input)
+  pub leaves : (w : World) (l : List ℕ) → Represents (e .core) w → Buffered (e .line) (e .len) l → Leaves e x (fed w l input)
 
 -- the end of input does likewise
 pub record Finishes (e x : Held) : Type 0 where
   pub ready : Ready (x .core .words) (x .core .bytes)
   pub room : x .at ≤ e .at + 19
-  pub leaves : (w : World) (l : List ℕ) → Stands (e .core) w → Holds (e .line) (e .len) l → Leaves e x (finished w l)
+  pub leaves : (w : World) (l : List ℕ) → Represents (e .core) w → Buffered (e .line) (e .len) l → Leaves e x (finished w l)
 
 -- ---- laws
 
-leaves-none : (e : Held) (w : World) (l : List ℕ) → Stands (e .core) w → Holds (e .line) (e .len) l
+leaves-none : (e : Held) (w : World) (l : List ℕ) → Represents (e .core) w → Buffered (e .line) (e .len) l
     → Leaves e e (record { output = []; world = w; line = l })
-leaves-none e w l s h = record { stands = s; holds = h; at-is = omega arith; output-is = put-nothing (e .output) (e .at) }
+leaves-none e w l s h = record { represents = s; buffered = h; at-is = omega arith; output-is = refl }
 
 pub feeds-none : (e : Held) → Ready (e .core .words) (e .core .bytes) → length (e .line) ≡ 40 → Feeds e e []
 feeds-none e r s = record {
@@ -102,10 +93,10 @@ feeds-none e r s = record {
 
 leaves-append : (e x y : Held) (f g : Feeding) → Leaves e x f → Leaves x y g → Leaves e y (after (f .output) g)
 leaves-append e x y f g a b = record {
-  stands = b .stands;
-  holds = b .holds;
+  represents = b .represents;
+  buffered = b .buffered;
   at-is = omega (arith, a .at-is, b .at-is, length-append (f .output) (g .output));
-  output-is = b .output-is ∙ rw (a .output-is, a .at-is) (put-put (f .output) (e .output) (e .at) (g .output));
+  output-is = b .output-is ∙ rw (a .output-is, a .at-is) (sets-sets (f .output) (e .output) (e .at) (g .output));
 }
 
 pub feeds-append : (e x y : Held) (a b : List ℕ) → Feeds e x a → Feeds x y b → Feeds e y (a ++ b)
@@ -117,5 +108,5 @@ feeds-append e x y a b p q = record {
   leaves = λ w l s h.
       let first = p .leaves w l s h in
       rw (fed-append a b w l)
-      (leaves-append e x y (fed w l a) (fed (fed w l a .world) (fed w l a .line) b) first (q .leaves (fed w l a .world) (fed w l a .line) (first .stands) (first .holds)));
+      (leaves-append e x y (fed w l a) (fed (fed w l a .world) (fed w l a .line) b) first (q .leaves (fed w l a .world) (fed w l a .line) (first .represents) (first .buffered)));
 }

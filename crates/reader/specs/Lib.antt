@@ -3,5 +3,5 @@ pub mod Output
 pub mod Feeding
 pub mod Held
 pub mod HeldLaws
-pub mod Ops
+pub mod Clauses
 pub mod Program

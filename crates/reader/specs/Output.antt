@@ -5,45 +5,36 @@ use mathlib.Core.List.{List, [], _∷_, _++_}
 use lib.Dec.{eqb}
 use lib.ListN.{replicate}
 use Rattle.layout.specs.Choice.{pick}
-use Rattle.model.specs.Calls.{Call, outcomeOf, start, end, make, enter, exit, allocate, store, load, write, read}
+use Rattle.model.specs.Calls.{Call, outcomeOf}
+use Rattle.model.specs.Ops.{callOf}
 use Rattle.model.specs.Run.{World, kept, step, begin}
 use Rattle.lines.specs.declared.frame.Fields.{Fields}
-use Rattle.lines.specs.declared.frame.Line.{Line}
-use Rattle.lines.specs.declared.frame.Line.the-variants.{Frame, Bad}
-use Rattle.lines.specs.Lines.{lineOf}
-use Rattle.digits.specs.Answers.{answerOf}
+use Rattle.lines.specs.declared.frame.Parsed.{Parsed}
+use Rattle.lines.specs.declared.frame.Parsed.the-variants.{Frame, Bad}
+use Rattle.lines.specs.Frames.{parsedOf}
+use Rattle.lines.specs.Answers.{answerOf}
 
--- the call of an op that exists, by its number; 10 is 0a
-unfoldable pub callOf : Fields → Call
-callOf f =
-    pick (eqb (f .op) 1) (start (f .thread) (f .p))
-    (pick (eqb (f .op) 2) (end (f .thread))
-    (pick (eqb (f .op) 3) (make (f .thread) (f .q) (f .r))
-    (pick (eqb (f .op) 4) (enter (f .thread) (f .q))
-    (pick (eqb (f .op) 5) (exit (f .thread))
-    (pick (eqb (f .op) 6) (allocate (f .thread) (f .q) (f .r))
-    (pick (eqb (f .op) 7) (store (f .thread) (f .p) (f .q) (f .r))
-    (pick (eqb (f .op) 8) (load (f .thread) (f .p) (f .q))
-    (pick (eqb (f .op) 9) (write (f .thread) (f .p) (f .q) (f .r))
-    (read (f .thread) (f .p) (f .q))))))))))
+-- the call of a frame
+abbrev pub frameCall : Fields → Call
+frameCall f = callOf (f .op) (f .thread) (f .p) (f .q) (f .r)
 
 -- the answer to each case of a line: a frame's is its call's; "Any other line gives 18 and is skipped to its line feed"
-abbrev pub answerTo : World → Line → List ℕ
-answerTo w (Frame f) = answerOf (outcomeOf (w .state) (w .memory) (callOf f) .reply .status) (outcomeOf (w .state) (w .memory) (callOf f) .reply .value)
+abbrev pub answerTo : World → Parsed → List ℕ
+answerTo w (Frame f) = answerOf (outcomeOf (w .state) (w .memory) (frameCall f) .reply .status) (outcomeOf (w .state) (w .memory) (frameCall f) .reply .value)
 answerTo w Bad = answerOf 18 0
 
 -- what each case leaves
-abbrev pub following : World → Line → World
-following w (Frame f) = step w (record { call = callOf f; supplied = kept })
+abbrev pub following : World → Parsed → World
+following w (Frame f) = step w (record { call = frameCall f; supplied = kept })
 following w Bad = w
 
 -- "Each line is answered by a line"
 unfoldable pub lineAnswer : World → List ℕ → List ℕ
-lineAnswer w l = answerTo w (lineOf l)
+lineAnswer w l = answerTo w (parsedOf l)
 
 -- the world after a line: a frame's call is carried out, any other line changes nothing
 unfoldable pub afterLine : World → List ℕ → World
-afterLine w l = following w (lineOf l)
+afterLine w l = following w (parsedOf l)
 
 -- a line feed ends a line; "The last line feed may be missing": what follows the last one is a line unless it is empty. The bytes of the
 -- line so far come first, then the input.

@@ -6,14 +6,13 @@ use native.Mathlib.Omega.{arith}
 use mathlib.Core.Path.{_≡_, refl, ap, ap₂, _∙_}
 use mathlib.Core.List.{List, [], _∷_, _++_}
 use lib.ListN.{length, take, drop}
-use lib.Seq.{sets-eq, take-append-seam}
+use lib.Seq.{sets, sets-eq, take-append-seam}
 use Rattle.model.specs.Run.{World}
-use Rattle.tables.specs.Cut.{put}
 use Rattle.reader.specs.Output.{firstWorld, outputOf}
-use Rattle.lines.specs.Lines.{Holds}
-use Rattle.lines.specs.LineLaws.{holds-none}
+use Rattle.lines.specs.Lines.{Buffered}
+use Rattle.lines.specs.LineLaws.{buffered-none}
 use Rattle.reader.specs.Feeding.{Feeding, fed, finished, fedAll, joined, fed-output}
-use Rattle.reader.specs.Held.{Core, Stands, Held, held, Leaves, Feeds, Finishes}
+use Rattle.reader.specs.Held.{Core, Represents, Held, held, Leaves, Feeds, Finishes}
 
 -- Chunk after chunk: each is fed to what the one before it left, with an output that has room for it and is written as far as it goes.
 pub data Fed : Core → List ℕ → ℕ → List (List ℕ) → List ℕ → Core → List ℕ → ℕ → Type 0 where
@@ -25,48 +24,47 @@ pub data Fed : Core → List ℕ → ℕ → List (List ℕ) → List ℕ → Co
       → Fed k line len (chunk ∷ chunks) (take n out₁ ++ written) k₂ line₂ len₂
 
 -- what is written of an output that was filled from its start
-take-put : (l o : List ℕ) → length o ≤ length l → take (length o) (put l 0 o) ≡ o
-unfolding put
-take-put l o h = ap (take (length o)) (sets-eq o l 0 (omega arith)) ∙ take-append-seam o (drop (0 + length o) l)
+take-sets : (l o : List ℕ) → length o ≤ length l → take (length o) (sets l 0 o) ≡ o
+take-sets l o h = ap (take (length o)) (sets-eq o l 0 (omega arith)) ∙ take-append-seam o (drop (0 + length o) l)
 
 written-part : (e x : Held) (f : Feeding) → e .at ≡ 0 → x .at ≤ length (e .output) → Leaves e x f → take (x .at) (x .output) ≡ f .output
 written-part e x f z h v =
     let n : x .at ≡ length (f .output) = omega (arith, v .at-is) in
-    rw (n, v .output-is, z) (take-put (e .output) (f .output) (omega arith))
+    rw (n, v .output-is, z) (take-sets (e .output) (f .output) (omega arith))
 
 pub record After (k : Core) (line : List ℕ) (len : ℕ) (written : List ℕ) (f : Feeding) : Type 0 where
   pub written-is : written ≡ f .output
-  pub stands : Stands k (f .world)
-  pub holds : Holds line len (f .line)
+  pub represents : Represents k (f .world)
+  pub buffered : Buffered line len (f .line)
 
 pub fed-after : {k k₁ : Core} {line line₁ : List ℕ} {len len₁ : ℕ} {chunks : List (List ℕ)} {written : List ℕ} (w : World) (l : List ℕ)
-    → Fed k line len chunks written k₁ line₁ len₁ → Stands k w → Holds line len l → After k₁ line₁ len₁ written (fedAll w l chunks)
+    → Fed k line len chunks written k₁ line₁ len₁ → Represents k w → Buffered line len l → After k₁ line₁ len₁ written (fedAll w l chunks)
 unfolding fedAll
-fed-after w l none s h = record { written-is = refl; stands = s; holds = h }
+fed-after w l none s h = record { written-is = refl; represents = s; buffered = h }
 fed-after w l (more {k = k} {k₁ = k₁} {line = line} {line₁ = line₁} {len = len} {len₁ = len₁} {chunk = chunk} {out = out} {out₁ = out₁} {n = n} r f d) s h =
     let v = f .leaves w l s h in
-    let a = fed-after (fed w l chunk .world) (fed w l chunk .line) d (v .stands) (v .holds) in
+    let a = fed-after (fed w l chunk .world) (fed w l chunk .line) d (v .represents) (v .buffered) in
     record {
       written-is =
           ap₂ (λ (x y : List ℕ). x ++ y)
           (written-part (held k line len out 0) (held k₁ line₁ len₁ out₁ n) (fed w l chunk) refl (omega (arith, f .room)) v)
           (a .written-is);
-      stands = a .stands;
-      holds = a .holds;
+      represents = a .represents;
+      buffered = a .buffered;
     }
 
 -- the whole: from the first world and an empty line to the end of the input
 pub program : {k k₁ k₂ : Core} {line line₁ : List ℕ} {len : ℕ} {chunks : List (List ℕ)} {written out out₁ : List ℕ} {n : ℕ}
-    → Stands k firstWorld
+    → Represents k firstWorld
     → length line ≡ 40
     → Fed k line 0 chunks written k₁ line₁ len
     → 19 ≤ length out
     → Finishes (held k₁ line₁ len out 0) (held k₂ line₁ 0 out₁ n)
     → written ++ take n out₁ ≡ outputOf (joined chunks)
 program {k} {k₁} {k₂} {line} {line₁} {len} {chunks} {written} {out} {out₁} {n} s z d r f =
-    let a = fed-after firstWorld [] d s (holds-none line z) in
+    let a = fed-after firstWorld [] d s (buffered-none line z) in
     let all : Feeding = fedAll firstWorld [] chunks in
-    let v = f .leaves (all .world) (all .line) (a .stands) (a .holds) in
+    let v = f .leaves (all .world) (all .line) (a .represents) (a .buffered) in
     ap₂ (λ (x y : List ℕ). x ++ y) (a .written-is)
     (written-part (held k₁ line₁ len out 0) (held k₂ line₁ 0 out₁ n) (finished (all .world) (all .line)) refl (omega (arith, f .room)) v)
     ∙ fed-output chunks

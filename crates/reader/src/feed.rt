@@ -1,10 +1,8 @@
 // Feeding: the input comes in chunks, each line that ends is answered, and the line so far waits for
 // the next chunk.
-use digits::digit::Text;
-use layout::stack::Answer;
-use lines::frame::Fields;
-use lines::frame::Line;
-use scopes::Op;
+use layout::answer::Answer;
+use lines::frame::Parsed;
+use lines::line::Text;
 use tables::Bytes;
 use tables::Words;
 ghost use mathlib.Core.Path.{_≡_};
@@ -12,57 +10,12 @@ ghost use mathlib.Core.List.{[], _∷_};
 ghost use Prim.Native.Nat.{_+_, _*_, _≤_};
 ghost use lib.ListN.{length};
 ghost use Rattle.tables.specs.Contract.{Ready};
-ghost use Rattle.reader.specs.Ops.{opOf};
-ghost use Rattle.reader.specs.Held.{core, held, Called, LineAnswered, Ended, Feeds, Finishes};
+ghost use Rattle.reader.specs.Clauses.{LineReplied, LineEnded, BytesFed, InputEnded};
 
 // How many bytes the line so far has (41 for every longer line), and how many were written.
 pub struct Fed {
     pub len: usize,
     pub written: usize,
-}
-
-// The op of a number from 1 to 10.
-fn op_of(op: u64) -> Op
-    ensures { λ r. ⌜ r ≡ opOf op ⌝ }
-{
-    match op {
-        1 => Op::Start,
-        2 => Op::End,
-        3 => Op::Make,
-        4 => Op::Enter,
-        5 => Op::Exit,
-        6 => Op::Allocate,
-        7 => Op::Store,
-        8 => Op::Load,
-        9 => Op::Write,
-        _ => Op::Read,
-    }
-}
-
-// Carries out the call of a frame.
-fn carry_out(
-    words: &mut Words,
-    bytes: &mut Bytes,
-    permanent: &mut [u64],
-    scratch: &mut [u64],
-    map: &mut [u64],
-    f: Fields,
-) -> Answer
-    requires { ⌜ Ready (now words) (now bytes) ⌝ }
-    ensures { λ r. ⌜ Called (core (now (words .entry)) (now (bytes .entry)) (now (permanent .entry)) (now (scratch .entry)) (now (map .entry))) (core (now (words .exit)) (now (bytes .exit)) (now (permanent .exit)) (now (scratch .exit)) (now (map .exit))) f r ⌝ }
-{
-    scopes::carry_out(
-        words,
-        bytes,
-        permanent,
-        scratch,
-        map,
-        op_of(f.op),
-        f.thread,
-        f.p,
-        f.q,
-        f.r,
-    )
 }
 
 // Answers a line: a frame's call is carried out; any other line gives 18 and changes nothing.
@@ -76,15 +29,27 @@ fn answer_line(
     len: usize,
 ) -> Answer
     requires { ⌜ (Ready (now words) (now bytes)) × (length (now line) ≡ 40) ⌝ }
-    ensures { λ r. ⌜ LineAnswered (core (now (words .entry)) (now (bytes .entry)) (now (permanent .entry)) (now (scratch .entry)) (now (map .entry))) (core (now (words .exit)) (now (bytes .exit)) (now (permanent .exit)) (now (scratch .exit)) (now (map .exit))) (now (line .entry)) len r ⌝ }
+    ensures { λ r. ⌜ LineReplied words bytes permanent scratch map line len r ⌝ }
 {
-    let Line::Frame(f) = lines::frame::parse_line(line, len) else {
+    let Parsed::Frame(f) = lines::frame::parse_line(line, len) else {
         return Answer {
             status: 18,
             value: 0,
         };
     };
-    carry_out(words, bytes, permanent, scratch, map, f)
+    let op = f.op;
+    scopes::carry_out(
+        words,
+        bytes,
+        permanent,
+        scratch,
+        map,
+        op,
+        f.thread,
+        f.p,
+        f.q,
+        f.r,
+    )
 }
 
 // Answers a line and writes the answer.
@@ -100,10 +65,10 @@ fn end_line(
     at: usize,
 )
     requires { ⌜ (Ready (now words) (now bytes)) × (length (now line) ≡ 40) × (at + 19 ≤ length (now output)) ⌝ }
-    ensures { λ r. ⌜ Ended (core (now (words .entry)) (now (bytes .entry)) (now (permanent .entry)) (now (scratch .entry)) (now (map .entry))) (core (now (words .exit)) (now (bytes .exit)) (now (permanent .exit)) (now (scratch .exit)) (now (map .exit))) (now (line .entry)) len (now (output .entry)) at (now (output .exit)) ⌝ }
+    ensures { λ r. ⌜ LineEnded words bytes permanent scratch map line len output at ⌝ }
 {
     let a = answer_line(words, bytes, permanent, scratch, map, line, len);
-    digits::answer::write_answer(output, at, a.status, a.value);
+    lines::answer::write_answer(output, at, a.status, a.value);
 }
 
 // One byte: a line feed ends the line so far; any other byte belongs to it.
@@ -120,7 +85,7 @@ fn feed_byte(
     at: usize,
 ) -> Fed
     requires { ⌜ (Ready (now words) (now bytes)) × (length (now line) ≡ 40) × (at + 19 ≤ length (now output)) ⌝ }
-    ensures { λ r. ⌜ Feeds (held (core (now (words .entry)) (now (bytes .entry)) (now (permanent .entry)) (now (scratch .entry)) (now (map .entry))) (now (line .entry)) len (now (output .entry)) at) (held (core (now (words .exit)) (now (bytes .exit)) (now (permanent .exit)) (now (scratch .exit)) (now (map .exit))) (now (line .exit)) (r .len) (now (output .exit)) (r .written)) (b ∷ []) ⌝ }
+    ensures { λ r. ⌜ BytesFed words bytes permanent scratch map line len output at (b ∷ []) r ⌝ }
 {
     if b == b'\n' {
         end_line(words, bytes, permanent, scratch, map, line, len, output, at);
@@ -148,7 +113,7 @@ pub fn feed(
     output: &mut [u8],
 ) -> Fed
     requires { ⌜ (Ready (now words) (now bytes)) × (length (now line) ≡ 40) × (19 * length (now input) ≤ length (now output)) ⌝ }
-    ensures { λ r. ⌜ Feeds (held (core (now (words .entry)) (now (bytes .entry)) (now (permanent .entry)) (now (scratch .entry)) (now (map .entry))) (now (line .entry)) len (now (output .entry)) 0) (held (core (now (words .exit)) (now (bytes .exit)) (now (permanent .exit)) (now (scratch .exit)) (now (map .exit))) (now (line .exit)) (r .len) (now (output .exit)) (r .written)) (now (input .entry)) ⌝ }
+    ensures { λ r. ⌜ BytesFed words bytes permanent scratch map line len output 0 (now (input .entry)) r ⌝ }
 {
     let mut n = len;
     let mut at = 0;
@@ -188,7 +153,7 @@ pub fn finish(
     output: &mut [u8],
 ) -> usize
     requires { ⌜ (Ready (now words) (now bytes)) × (length (now line) ≡ 40) × (19 ≤ length (now output)) ⌝ }
-    ensures { λ r. ⌜ Finishes (held (core (now (words .entry)) (now (bytes .entry)) (now (permanent .entry)) (now (scratch .entry)) (now (map .entry))) (now (line .entry)) len (now (output .entry)) 0) (held (core (now (words .exit)) (now (bytes .exit)) (now (permanent .exit)) (now (scratch .exit)) (now (map .exit))) (now (line .entry)) 0 (now (output .exit)) r) ⌝ }
+    ensures { λ r. ⌜ InputEnded words bytes permanent scratch map line len output r ⌝ }
 {
     if len == 0 {
         return 0;

@@ -10,7 +10,7 @@ use borrow.Author.Tests.{eqb-true, le-leb, lt-leb, lt-ltb, le-ltb, eq-eqb, ne-eq
 use Rattle.layout.specs.Choice.{refuse, cases, hit, skip}
 use Rattle.layout.specs.Handle.{null, areaOf}
 use Rattle.layout.specs.Header.{slotsOf}
-use Rattle.display.specs.Display.{rowHolds}
+use Rattle.layout.specs.Display.{rowHolds}
 use Rattle.rights.specs.declared.Right.the-variants.{Refer}
 use Rattle.model.specs.declared.Area.{Area}
 use Rattle.model.specs.State.{State, Memory, areaAt, displayHolds}
@@ -79,7 +79,7 @@ module _ (w b : List ℕ) (object target : ℕ) where
   unfolding mayRefer
   may-plain h = rw (lt-ltb target 2 h)
 
-  module _ (h : 2 ≤ target) (ho : object < 64) (ht : target < 64) (x y : Area) (ex : x ≡ decode.areaOf w target) (ey : y ≡ decode.areaOf w object) where
+  module _ (h : 2 ≤ target) (ho : object < 64) (ht : target < 64) (x y : Area) (ex : x ≡ decode.areaRecord w target) (ey : y ≡ decode.areaRecord w object) where
     target-is : areaAt (decode.stateOf w b) target ≡ x
     target-is = area-read w b target ht ∙ sym ex
 
@@ -90,7 +90,7 @@ module _ (w b : List ℕ) (object target : ℕ) where
     unfolding mayRefer displayHolds
     may-deeper k = rw (le-ltb target 2 h, target-is, object-is, lt-leb (x .depth) (y .depth) k)
 
-    pub may-look : x .depth ≤ y .depth → rowHolds (decode.rowOf b object) (x .depth) target ≡ mayRefer (decode.stateOf w b) object target
+    pub may-look : x .depth ≤ y .depth → rowHolds (decode.displayRow b object) (x .depth) target ≡ mayRefer (decode.stateOf w b) object target
     unfolding mayRefer displayHolds
     may-look k = rw (le-ltb target 2 h, target-is, object-is, le-leb (x .depth) (y .depth) k, row-read w b object ho)
 

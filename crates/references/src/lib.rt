@@ -1,7 +1,7 @@
 // Ops 07 and 08: a reference is stored in a slot, or loaded from one.
-use display::Depth;
+use layout::display::Depth;
 use layout::handle;
-use layout::stack::Answer;
+use layout::answer::Answer;
 use objects::Checked;
 use objects::Found;
 use rights::Right;
@@ -28,7 +28,7 @@ fn may_refer(words: &Words, bytes: &Bytes, object: u64, target: u64) -> bool
     if deepest < depth {
         return false;
     }
-    rows::row_holds(bytes, object as usize, Depth(depth as usize), target as u8)
+    tables::row_holds(bytes, object as usize, Depth(depth as usize), target as u8)
 }
 
 // Refusals 13, 5 and 14, for a call that has passed 1 and 2: an object and one of its slots.

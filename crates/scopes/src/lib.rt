@@ -1,23 +1,10 @@
 // The core: a call of any op, carried out in place on the tables and the buffers that are lent.
-use layout::stack::Answer;
+use layout::answer::Answer;
+use model::Op;
 use tables::Bytes;
 use tables::Words;
+ghost use Rattle.model.specs.Ops.{callOf};
 ghost use Rattle.tables.specs.Contract.{Usable, Answers};
-ghost use Rattle.scopes.specs.Step.{callOf};
-
-// The ops, 01 to 0a.
-pub enum Op {
-    Start,
-    End,
-    Make,
-    Enter,
-    Exit,
-    Allocate,
-    Store,
-    Load,
-    Write,
-    Read,
-}
 
 // The answer, the tables and the buffers are those of the call's definition.
 pub fn carry_out(

@@ -17,13 +17,13 @@ use Rattle.model.proofs.Reached.{run-none, reached-step, reached-claims}
 use Rattle.tables.specs.Contract.{memoryOf}
 use Rattle.tables.specs.AnsweredLaws.{worldOf}
 use Rattle.setup.specs.First.{prepared}
-use Rattle.lines.specs.declared.frame.Line.{Line}
-use Rattle.lines.specs.declared.frame.Line.the-variants.{Frame, Bad}
-use Rattle.lines.specs.Lines.{lineOf}
-use Rattle.lines.specs.LineLaws.{holds-none}
-use Rattle.reader.specs.Output.{callOf, answerTo, following, lineAnswer, afterLine, linesOf, answersOf, firstWorld, outputOf}
+use Rattle.lines.specs.declared.frame.Parsed.{Parsed}
+use Rattle.lines.specs.declared.frame.Parsed.the-variants.{Frame, Bad}
+use Rattle.lines.specs.Frames.{parsedOf}
+use Rattle.lines.specs.LineLaws.{buffered-none}
+use Rattle.reader.specs.Output.{frameCall, answerTo, following, lineAnswer, afterLine, linesOf, answersOf, firstWorld, outputOf}
 use Rattle.reader.specs.Feeding.{fed, finished, fedAll, joined, fed-none, fed-end, fed-other, fed-chunks, lines-end, lines-other}
-use Rattle.reader.specs.Held.{Core, Stands, held, Finishes}
+use Rattle.reader.specs.Held.{Core, Represents, held, Finishes}
 use Rattle.reader.specs.Program.{Fed, fed-after}
 use Rattle.served.specs.Input.{elementsTo, elementsOf, linesFrom, onto, answerBy, leftBy, answersBy}
 
@@ -33,7 +33,7 @@ unfoldable afterLines : World → List (List ℕ) → World
 afterLines w [] = w
 afterLines w (l ∷ ls) = afterLines (afterLine w l) ls
 
-after-to : (w : World) (x : Line) (es : List Element) → run w (elementsTo x es) ≡ run (following w x) es
+after-to : (w : World) (x : Parsed) (es : List Element) → run w (elementsTo x es) ≡ run (following w x) es
 unfolding run
 after-to w (Frame f) es = refl
 after-to w Bad es = refl
@@ -41,7 +41,7 @@ after-to w Bad es = refl
 after-lines : (ls : List (List ℕ)) (w : World) → afterLines w ls ≡ run w (elementsOf ls)
 unfolding afterLines elementsOf afterLine run
 after-lines [] w = refl
-after-lines (l ∷ ls) w = after-lines ls (afterLine w l) ∙ sym (after-to w (lineOf l) (elementsOf ls))
+after-lines (l ∷ ls) w = after-lines ls (afterLine w l) ∙ sym (after-to w (parsedOf l) (elementsOf ls))
 
 rest-world : (w : World) (l : List ℕ) → finished w l .world ≡ afterLines w (linesOf l [])
 unfolding finished linesOf afterLines
@@ -80,13 +80,13 @@ first-reached = record {
   run-is = sym (run-none (begin 1024 1024 (memoryOf (replicate 2048 0) (replicate 4096 0) (replicate 96 0))));
 }
 
-line-reached : (w : World) (x : Line) → Reached w → Reached (following w x)
-line-reached w (Frame f) r = reached-step w (record { call = callOf f; supplied = kept }) r
+line-reached : (w : World) (x : Parsed) → Reached w → Reached (following w x)
+line-reached w (Frame f) r = reached-step w (record { call = frameCall f; supplied = kept }) r
 line-reached w Bad r = r
 
 after-reached : (w : World) (l : List ℕ) → Reached w → Reached (afterLine w l)
 unfolding afterLine
-after-reached w l r = line-reached w (lineOf l) r
+after-reached w l r = line-reached w (parsedOf l) r
 
 fed-reached : (input : List ℕ) (w : World) (l : List ℕ) → Reached w → Reached (fed w l input .world)
 fed-reached [] w l r = rw (fed-none w l) r
@@ -106,30 +106,30 @@ finished-reached w (c ∷ l) r = after-reached w (c ∷ l) r
 abbrev pub CoreClaims : Core → World → Type 0
 CoreClaims k w = Claims (worldOf (k .words) (k .bytes) (memoryOf (k .permanent) (k .scratch) (k .map)) (w .trace)) (historyOf (w .trace))
 
-stands-claims : (k : Core) (w : World) → Stands k w → Reached w → CoreClaims k w
-stands-claims k w s r = rw (s .state, s .memory) (reached-claims w r)
+represents-claims : (k : Core) (w : World) → Represents k w → Reached w → CoreClaims k w
+represents-claims k w s r = rw (s .state, s .memory) (reached-claims w r)
 
 module _ {k k₁ : Core} {line line₁ : List ℕ} {len : ℕ} {chunks : List (List ℕ)} {written : List ℕ}
-    (s : Stands k firstWorld) (z : length line ≡ 40) (d : Fed k line 0 chunks written k₁ line₁ len) where
+    (s : Represents k firstWorld) (z : length line ≡ 40) (d : Fed k line 0 chunks written k₁ line₁ len) where
   abbrev input : List ℕ
   input = joined chunks
 
   -- after each chunk, however the input was cut
   pub chunks-claims : CoreClaims k₁ (fed firstWorld [] input .world)
   chunks-claims =
-      stands-claims k₁ (fed firstWorld [] input .world)
-      (rw (fed-chunks chunks firstWorld []) at (fed-after firstWorld [] d s (holds-none line z) .stands))
+      represents-claims k₁ (fed firstWorld [] input .world)
+      (rw (fed-chunks chunks firstWorld []) at (fed-after firstWorld [] d s (buffered-none line z) .represents))
       (fed-reached input firstWorld [] first-reached)
 
   -- after the end of the input: with the lines of the calls of all its frames
   pub program-claims : {k₂ : Core} {out out₁ : List ℕ} {n : ℕ} → Finishes (held k₁ line₁ len out 0) (held k₂ line₁ 0 out₁ n)
       → CoreClaims k₂ (run firstWorld (elementsOf (linesOf [] input)))
   program-claims {k₂} f =
-      let a = fed-after firstWorld [] d s (holds-none line z) in
-      let v = f .leaves (fedAll firstWorld [] chunks .world) (fedAll firstWorld [] chunks .line) (a .stands) (a .holds) in
+      let a = fed-after firstWorld [] d s (buffered-none line z) in
+      let v = f .leaves (fedAll firstWorld [] chunks .world) (fedAll firstWorld [] chunks .line) (a .represents) (a .buffered) in
       let w : World = finished (fed firstWorld [] input .world) (fed firstWorld [] input .line) .world in
       subst (CoreClaims k₂) (output-world input)
-      (stands-claims k₂ w (rw (fed-chunks chunks firstWorld []) at (v .stands))
+      (represents-claims k₂ w (rw (fed-chunks chunks firstWorld []) at (v .represents))
       (finished-reached (fed firstWorld [] input .world) (fed firstWorld [] input .line) (fed-reached input firstWorld [] first-reached)))
 
 -- ---- and what it has written tells the calls' answers, in their order
@@ -139,7 +139,7 @@ unfolding run step linesFrom onto
 run-trace [] w = refl
 run-trace (e ∷ es) w = run-trace es (step w e)
 
-answer-by : (w : World) (x : Line) (lines : List (List ℕ)) (es : List Element)
+answer-by : (w : World) (x : Parsed) (lines : List (List ℕ)) (es : List Element)
     → answerBy x (linesFrom w (elementsTo x es)) ++ answersBy lines (leftBy x (linesFrom w (elementsTo x es)))
     ≡ answerTo w x ++ answersBy lines (linesFrom (following w x) es)
 unfolding linesFrom
@@ -150,7 +150,7 @@ answers-by : (lines : List (List ℕ)) (w : World) → answersOf w lines ≡ ans
 unfolding answersOf answersBy elementsOf lineAnswer afterLine
 answers-by [] w = refl
 answers-by (l ∷ lines) w =
-    ap (λ (o : List ℕ). lineAnswer w l ++ o) (answers-by lines (afterLine w l)) ∙ sym (answer-by w (lineOf l) lines (elementsOf lines))
+    ap (λ (o : List ℕ). lineAnswer w l ++ o) (answers-by lines (afterLine w l)) ∙ sym (answer-by w (parsedOf l) lines (elementsOf lines))
 
 -- the output of an input tells the lines of its list of calls, which are the trace of the world at its end
 pub output-told : (input : List ℕ) → outputOf input ≡ answersBy (linesOf [] input) (linesFrom firstWorld (elementsOf (linesOf [] input)))

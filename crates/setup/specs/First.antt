@@ -12,20 +12,20 @@ use Rattle.layout.specs.Choice.{hit, skip, pick-true, pick-false}
 use Rattle.model.specs.declared.Lengths.{Lengths}
 use Rattle.model.specs.State.{State, withArea}
 use Rattle.model.specs.SetUp.{setUpStatus, firstState, setUpState, standing}
-use Rattle.tables.specs.Decode.{putArea, putLengths, Holds}
-use Rattle.tables.specs.Laws.{state-area}
+use Rattle.tables.specs.Decode.{wordCount, byteCount, putArea, putLengths, Holds}
+use Rattle.tables.specs.Laws.{state-area, withLengths, state-lengths}
 use Rattle.tables.specs.Contract.{Ready}
-use Rattle.tables.specs.Blank.{blank-holds, withLengths, state-lengths}
+use Rattle.tables.specs.Blank.{blank-holds}
 
 -- heap and immortal are written, then the lengths
 abbrev pub firstWords : ℕ → ℕ → Lengths → List ℕ
-firstWords h i n = putLengths (putArea (putArea (replicate 548 0) 0 (standing 0 h)) 1 (standing h i)) n
+firstWords h i n = putLengths (putArea (putArea (replicate wordCount 0) 0 (standing 0 h)) 1 (standing h i)) n
 
-pub first-holds : (h i : ℕ) (n : Lengths) → Holds (firstWords h i n) (replicate 3072 0) (firstState h i n)
+pub first-holds : (h i : ℕ) (n : Lengths) → Holds (firstWords h i n) (replicate byteCount 0) (firstState h i n)
 unfolding withArea firstState
 first-holds h i n =
-    let b : List ℕ = replicate 3072 0 in
-    let w0 : List ℕ = replicate 548 0 in
+    let b : List ℕ = replicate byteCount 0 in
+    let w0 : List ℕ = replicate wordCount 0 in
     let w1 : List ℕ = putArea w0 0 (standing 0 h) in
     let w2 : List ℕ = putArea w1 1 (standing h i) in
     let h1 = state-area w0 b 0 (standing 0 h) (omega arith) (blank-holds .sized) in
@@ -62,14 +62,14 @@ module _ (h i : ℕ) (n : Lengths) where
         prepared e = sym (skip _ _ _ (ap not (eq-eqb (h + i) (n .permanent) w)) ∙ skip _ _ _ (le-ltb 16384 (n .permanent) a) ∙ skip _ _ _ (le-ltb 16384 (n .scratch) b) ∙ skip _ _ _ (ap not (eq-eqb (n .map) _ e)))
 
   -- what set-up gives, by its status
-  pub accepted-holds : setUpStatus h i n ≡ 0 → Holds (firstWords h i n) (replicate 3072 0) (setUpState h i n)
+  pub accepted-holds : setUpStatus h i n ≡ 0 → Holds (firstWords h i n) (replicate byteCount 0) (setUpState h i n)
   unfolding setUpState
   accepted-holds e =
       let k = first-holds h i n in
       record { sized = k .sized; state = k .state ∙ sym (pick-true (eqb (setUpStatus h i n) 0) _ _ (eq-eqb (setUpStatus h i n) 0 e)) }
 
   pub refused-holds : (setUpStatus h i n ≡ 0 → ⊥)
-      → Holds (firstWords 0 0 (record { permanent = 0; scratch = 0; map = 0 })) (replicate 3072 0) (setUpState h i n)
+      → Holds (firstWords 0 0 (record { permanent = 0; scratch = 0; map = 0 })) (replicate byteCount 0) (setUpState h i n)
   unfolding setUpState
   refused-holds e =
       let k = first-holds 0 0 (record { permanent = 0; scratch = 0; map = 0 }) in

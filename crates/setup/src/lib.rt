@@ -2,12 +2,14 @@
 // written.
 use model::Area;
 use model::Lengths;
+use tables::BYTES;
 use tables::Bytes;
+use tables::WORDS;
 use tables::Words;
 ghost use mathlib.Core.Path.{_≡_};
 ghost use lib.ListN.{replicate};
 ghost use Rattle.model.specs.SetUp.{setUpStatus, setUpState, standing, lengthsOf};
-ghost use Rattle.tables.specs.Decode.{Holds};
+ghost use Rattle.tables.specs.Decode.{byteCount, Holds};
 ghost use Rattle.tables.specs.Contract.{memoryOf};
 ghost use Rattle.setup.specs.First.{firstWords, Begun};
 
@@ -61,7 +63,7 @@ fn check_set_up(h: u64, i: u64, n: Lengths) -> u64
 fn first_words(h: u64, i: u64, n: Lengths) -> Words
     ensures { λ r. ⌜ r ≡ firstWords h i n ⌝ }
 {
-    let mut words = [0u64; 548];
+    let mut words = [0u64; WORDS];
     tables::put_area(&mut words, 0, standing_area(0, h));
     tables::put_area(&mut words, 1, standing_area(h, i));
     tables::put_lengths(&mut words, n);
@@ -71,7 +73,7 @@ fn first_words(h: u64, i: u64, n: Lengths) -> Words
 // The words of what set-up gives: of an accepted one, or of one with all lengths 0.
 fn set_up_words(status: u64, h: u64, i: u64, n: Lengths) -> Words
     requires { ⌜ status ≡ setUpStatus h i n ⌝ }
-    ensures { λ r. ⌜ Holds r (replicate 3072 0) (setUpState h i n) ⌝ }
+    ensures { λ r. ⌜ Holds r (replicate byteCount 0) (setUpState h i n) ⌝ }
 {
     if status == 0 {
         return first_words(h, i, n);
@@ -100,6 +102,6 @@ pub fn set_up(permanent: &[u64], scratch: &[u64], map: &[u64], h: u64, i: u64) -
     SetUp {
         status,
         words,
-        bytes: [0u8; 3072],
+        bytes: [0u8; BYTES],
     }
 }

@@ -7,12 +7,12 @@ use lib.Dec.{eqb}
 use denote.Ref.{RefT, now}
 use denote.Triple.Both.{Both}
 use Rattle.layout.specs.Choice.{pick}
-use Rattle.layout.specs.declared.stack.Answer.{Answer}
+use Rattle.layout.specs.declared.answer.Answer.{Answer}
 use Rattle.model.specs.State.{State, Memory}
 use Rattle.model.specs.Checks.{Change}
 use Rattle.model.specs.Calls.{Call, Reply, outcomeOf}
 use Rattle.model.specs.Invariant.{Good}
-use Rattle.tables.specs.Decode.{stateOf, Sized, Holds}
+use Rattle.tables.specs.Decode.{stateOf, Shaped, Holds}
 
 -- ---- what a function is lent
 
@@ -53,7 +53,7 @@ Leaves words bytes s = Holds (now (words .exit)) (now (bytes .exit)) s
 
 -- what set-up and every call leave, and all that a call asks: the tables hold a state of the invariant
 pub record Ready (w b : List ℕ) : Type 0 where
-  pub sized : Sized w b
+  pub sized : Shaped w b
   pub good : Good (stateOf w b)
 
 abbrev pub Usable : Cell → Cell → Type 0

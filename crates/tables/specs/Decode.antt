@@ -1,7 +1,7 @@
--- The state that the two tables hold: where each record lies, and what is written where.
+-- The state that the two tables hold: where each record lies, what is read there and what is written.
 -- Assumes nothing.
 use mathlib.Core.List.{List}
-use Prim.Native.Nat.{ℕ, _+_, _*_}
+use Prim.Native.Nat.{ℕ, _+_, _*_, _<_}
 use mathlib.Core.Path.{_≡_}
 use lib.ListN.{length, getD, set}
 use Rattle.model.specs.declared.Area.{Area}
@@ -9,82 +9,170 @@ use Rattle.model.specs.declared.Lengths.{Lengths}
 use Rattle.model.specs.State.{Thread, State}
 use Rattle.tables.specs.Cut.{cut, put, each}
 
--- ---- areas, 8 words each, of which the last is spare
+-- ---- where the words lie: the areas, the threads, the three lengths, the scratch words taken
 
-abbrev pub areaOf : List ℕ → ℕ → Area
-areaOf w a = record {
-  start = getD w (a * 8) 0;
-  size = getD w (a * 8 + 1) 0;
-  used = getD w (a * 8 + 2) 0;
-  generation = getD w (a * 8 + 3) 0;
-  count = getD w (a * 8 + 4) 0;
-  parent = getD w (a * 8 + 5) 0;
-  depth = getD w (a * 8 + 6) 0;
+-- "Area 0 is the heap, 1 immortal, 2 to 63 scopes."
+abbrev pub areaCount : ℕ
+areaCount = 64
+
+-- "Threads are 0 to 15."
+abbrev pub threadCount : ℕ
+threadCount = 16
+
+-- an area's 7 numbers, and a spare word
+abbrev pub areaWords : ℕ
+areaWords = 8
+
+abbrev pub areaIndex : ℕ → ℕ
+areaIndex a = a * areaWords
+
+abbrev pub threadsAt : ℕ
+threadsAt = areaCount * areaWords
+
+-- a thread's kind, and the length of its stack
+abbrev pub threadWords : ℕ
+threadWords = 2
+
+abbrev pub kindIndex : ℕ → ℕ
+kindIndex t = threadsAt + t * threadWords
+
+abbrev pub lenIndex : ℕ → ℕ
+lenIndex t = threadsAt + 1 + t * threadWords
+
+abbrev pub lengthsAt : ℕ
+lengthsAt = threadsAt + threadCount * threadWords
+
+abbrev pub takenAt : ℕ
+takenAt = lengthsAt + 3
+
+abbrev pub wordCount : ℕ
+wordCount = takenAt + 1
+
+-- ---- where the bytes lie, in rows of 32: the entries of the threads, the innermost scopes as of them, the displays of the areas
+
+abbrev pub rowBytes : ℕ
+rowBytes = 32
+
+abbrev pub rowIndex : ℕ → ℕ
+rowIndex n = n * rowBytes
+
+abbrev pub innerRows : ℕ
+innerRows = threadCount
+
+abbrev pub displayRows : ℕ
+displayRows = innerRows + threadCount
+
+abbrev pub rowCount : ℕ
+rowCount = displayRows + areaCount
+
+abbrev pub byteCount : ℕ
+byteCount = rowCount * rowBytes
+
+-- ---- areas
+
+abbrev pub areaRecord : List ℕ → ℕ → Area
+areaRecord w a = record {
+  start = getD w (areaIndex a) 0;
+  size = getD w (areaIndex a + 1) 0;
+  used = getD w (areaIndex a + 2) 0;
+  generation = getD w (areaIndex a + 3) 0;
+  count = getD w (areaIndex a + 4) 0;
+  parent = getD w (areaIndex a + 5) 0;
+  depth = getD w (areaIndex a + 6) 0;
 }
+
+abbrev pub spareOf : List ℕ → ℕ → ℕ
+spareOf w a = getD w (areaIndex a + 7) 0
 
 abbrev pub putArea : List ℕ → ℕ → Area → List ℕ
 putArea w a x =
-    set (set (set (set (set (set (set w (a * 8) (x .start)) (a * 8 + 1) (x .size)) (a * 8 + 2) (x .used)) (a * 8 + 3) (x .generation))
-    (a * 8 + 4) (x .count)) (a * 8 + 5) (x .parent)) (a * 8 + 6) (x .depth)
-
--- ---- threads
-
-unfoldable pub threadOf : List ℕ → List ℕ → ℕ → Thread
-threadOf w b t = record {
-  kind = getD w (512 + t * 2) 0;
-  len = getD w (513 + t * 2) 0;
-  entries = cut b (t * 32) 32;
-  inner = cut b (512 + t * 32) 32;
-}
-
-abbrev pub putKind : List ℕ → ℕ → ℕ → List ℕ
-putKind w t k = set w (512 + t * 2) k
-
-abbrev pub putLen : List ℕ → ℕ → ℕ → List ℕ
-putLen w t n = set w (513 + t * 2) n
-
-abbrev pub putEntry : List ℕ → ℕ → ℕ → ℕ → List ℕ
-putEntry b t k v = set b (t * 32 + k) v
-
-abbrev pub putInner : List ℕ → ℕ → ℕ → ℕ → List ℕ
-putInner b t k v = set b (512 + t * 32 + k) v
+    let i : ℕ = areaIndex a in
+    set (set (set (set (set (set (set w i (x .start)) (i + 1) (x .size)) (i + 2) (x .used)) (i + 3) (x .generation)) (i + 4) (x .count))
+    (i + 5) (x .parent)) (i + 6) (x .depth)
 
 -- ---- lengths and scratch
 
-abbrev pub lengthsOf : List ℕ → Lengths
-lengthsOf w = record { permanent = getD w 544 0; scratch = getD w 545 0; map = getD w 546 0 }
+abbrev pub lengthsRecord : List ℕ → Lengths
+lengthsRecord w = record { permanent = getD w lengthsAt 0; scratch = getD w (lengthsAt + 1) 0; map = getD w (lengthsAt + 2) 0 }
 
 abbrev pub putLengths : List ℕ → Lengths → List ℕ
-putLengths w n = set (set (set w 544 (n .permanent)) 545 (n .scratch)) 546 (n .map)
+putLengths w n = set (set (set w lengthsAt (n .permanent)) (lengthsAt + 1) (n .scratch)) (lengthsAt + 2) (n .map)
+
+abbrev pub takenOf : List ℕ → ℕ
+takenOf w = getD w takenAt 0
 
 abbrev pub putTaken : List ℕ → ℕ → List ℕ
-putTaken w n = set w 547 n
+putTaken w n = set w takenAt n
+
+-- ---- rows of bytes
+
+unfoldable pub byteRow : List ℕ → ℕ → List ℕ
+byteRow b n = cut b (rowIndex n) rowBytes
+
+unfoldable pub putByteRow : List ℕ → ℕ → List ℕ → List ℕ
+putByteRow b n r = put b (rowIndex n) r
+
+abbrev pub byteOf : List ℕ → ℕ → ℕ → ℕ
+byteOf b n k = getD b (rowIndex n + k) 0
+
+abbrev pub putByte : List ℕ → ℕ → ℕ → ℕ → List ℕ
+putByte b n k v = set b (rowIndex n + k) v
+
+-- ---- threads: two words, and two rows of bytes
+
+abbrev pub kindOf : List ℕ → ℕ → ℕ
+kindOf w t = getD w (kindIndex t) 0
+
+abbrev pub putKind : List ℕ → ℕ → ℕ → List ℕ
+putKind w t k = set w (kindIndex t) k
+
+abbrev pub lenOf : List ℕ → ℕ → ℕ
+lenOf w t = getD w (lenIndex t) 0
+
+abbrev pub putLen : List ℕ → ℕ → ℕ → List ℕ
+putLen w t n = set w (lenIndex t) n
+
+abbrev pub entryOf : List ℕ → ℕ → ℕ → ℕ
+entryOf b t k = byteOf b t k
+
+abbrev pub putEntry : List ℕ → ℕ → ℕ → ℕ → List ℕ
+putEntry b t k v = putByte b t k v
+
+abbrev pub innerOf : List ℕ → ℕ → ℕ → ℕ
+innerOf b t k = byteOf b (innerRows + t) k
+
+abbrev pub putInner : List ℕ → ℕ → ℕ → ℕ → List ℕ
+putInner b t k v = putByte b (innerRows + t) k v
+
+unfoldable pub threadOf : List ℕ → List ℕ → ℕ → Thread
+threadOf w b t = record { kind = kindOf w t; len = lenOf w t; entries = byteRow b t; inner = byteRow b (innerRows + t) }
 
 -- ---- displays
 
-unfoldable pub rowOf : List ℕ → ℕ → List ℕ
-rowOf b a = cut b (1024 + a * 32) 32
+unfoldable pub displayRow : List ℕ → ℕ → List ℕ
+displayRow b a = byteRow b (displayRows + a)
 
 unfoldable pub putRow : List ℕ → ℕ → List ℕ → List ℕ
-putRow b a r = put b (1024 + a * 32) r
+putRow b a r = putByteRow b (displayRows + a) r
 
 -- ---- the state
 
 unfoldable pub stateOf : List ℕ → List ℕ → State
 stateOf w b = record {
-  areas = each (areaOf w) 64;
-  rows = each (rowOf b) 64;
-  threads = each (threadOf w b) 16;
-  lengths = lengthsOf w;
-  taken = getD w 547 0;
+  areas = each (areaRecord w) areaCount;
+  rows = each (displayRow b) areaCount;
+  threads = each (threadOf w b) threadCount;
+  lengths = lengthsRecord w;
+  taken = takenOf w;
 }
 
--- the two tables are as long as they are declared
-pub record Sized (w b : List ℕ) : Type 0 where
-  pub words : length w ≡ 548
-  pub bytes : length b ≡ 3072
+-- the two tables are as long as they are declared, and the spare words are 0: so the state that they hold says the rest of them
+pub record Shaped (w b : List ℕ) : Type 0 where
+  pub words : length w ≡ wordCount
+  pub bytes : length b ≡ byteCount
+  pub spare : (a : ℕ) → a < areaCount → spareOf w a ≡ 0
 
 -- two tables hold a state
 pub record Holds (w b : List ℕ) (s : State) : Type 0 where
-  pub sized : Sized w b
+  pub sized : Shaped w b
   pub state : stateOf w b ≡ s

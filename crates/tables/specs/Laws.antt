@@ -1,65 +1,109 @@
--- Reading the state after a write of one record of a table.
+-- Reading the state after a write of one record of a table; and the tables are told by their state.
 -- Assumes nothing.
 use mathlib.Core.Path.{_≡_, refl, sym, ap, _∙_}
 use mathlib.Core.List.{List, [], _∷_}
 use mathlib.Core.Logic.{_⊎_, inl, inr, _≢_, ⊎-elim}
 use mathlib.Core.Bool.{Bool, true, false}
-use Prim.Native.Nat.{ℕ, suc, _+_, _*_, _≤_, _<_}
+use Prim.Native.Nat.{ℕ, zero, suc, _+_, _-_, _*_, _/_, _%_, _≤_, _<_}
 use native.Mathlib.Nat.{add-zero}
 use native.Mathlib.Omega.{arith}
 use lib.Dec.{ltb}
 use borrow.Author.Tests.{ltb-true, ltb-false}
 use lib.ListN.{length, getD, set, length-set}
-use lib.Seq.{getD-set-same, getD-set-other}
+use lib.Seq.{ext-getD, getD-set-same, getD-set-other}
 use Rattle.model.specs.declared.Area.{Area}
-use Rattle.model.specs.State.{Thread, noArea, noThread, areaAt, rowAt, threadAt, withArea, withRow, withThread, withTaken}
-use Rattle.tables.specs.Cut.{cut, put, each, getD-cut, length-cut, length-put, cut-put, cut-put-other, getD-put-other, cut-set, cut-set-other, cut-ext, each-at, each-set, each-same}
-use Rattle.tables.specs.Decode.{areaOf, putArea, threadOf, putKind, putLen, putEntry, putInner, lengthsOf, putTaken, rowOf, putRow, stateOf, Sized, Holds}
+use Rattle.model.specs.declared.Lengths.{Lengths}
+use Rattle.model.specs.State.{State, Thread, noArea, noThread, areaAt, rowAt, threadAt, withArea, withRow, withThread, withTaken}
+use Rattle.tables.specs.Cut.{cut, put, each, from, getD-cut, length-cut, length-put, cut-put, cut-put-other, getD-put-other, cut-set, cut-set-other, each-at, each-set, each-same}
+use Rattle.tables.specs.Decode.{areaCount, threadCount, areaWords, areaIndex, threadsAt, threadWords, kindIndex, lenIndex, lengthsAt, takenAt, wordCount, rowBytes, rowIndex, innerRows, displayRows, rowCount, byteCount}
+use Rattle.tables.specs.Decode.{areaRecord, spareOf, putArea, lengthsRecord, putLengths, takenOf, putTaken, byteRow, putByteRow, byteOf, putByte, kindOf, putKind, lenOf, putLen, entryOf, putEntry, innerOf, putInner, threadOf, displayRow, putRow, stateOf, Shaped, Holds}
 
 -- ---- the records of a table's state
 
+pub byte-read : (b : List ℕ) (n k : ℕ) → k < rowBytes → getD (byteRow b n) k 0 ≡ byteOf b n k
+unfolding byteRow
+byte-read b n k h = getD-cut b (rowIndex n) rowBytes k h
+
+pub length-row : (b : List ℕ) (a : ℕ) → length (displayRow b a) ≡ rowBytes
+unfolding displayRow byteRow
+length-row b a = length-cut b (rowIndex (displayRows + a)) rowBytes
+
 module _ (w b : List ℕ) where
-  pub area-read : (a : ℕ) → a < 64 → areaAt (stateOf w b) a ≡ areaOf w a
+  pub area-read : (a : ℕ) → a < areaCount → areaAt (stateOf w b) a ≡ areaRecord w a
   unfolding stateOf
-  area-read a h = each-at (areaOf w) 64 a noArea h
+  area-read a h = each-at (areaRecord w) areaCount a noArea h
 
-  pub row-read : (a : ℕ) → a < 64 → rowAt (stateOf w b) a ≡ rowOf b a
+  pub row-read : (a : ℕ) → a < areaCount → rowAt (stateOf w b) a ≡ displayRow b a
   unfolding stateOf
-  row-read a h = each-at (rowOf b) 64 a [] h
+  row-read a h = each-at (displayRow b) areaCount a [] h
 
-  pub thread-read : (t : ℕ) → t < 16 → threadAt (stateOf w b) t ≡ threadOf w b t
+  pub thread-read : (t : ℕ) → t < threadCount → threadAt (stateOf w b) t ≡ threadOf w b t
   unfolding stateOf
-  thread-read t h = each-at (threadOf w b) 16 t noThread h
+  thread-read t h = each-at (threadOf w b) threadCount t noThread h
 
-  pub kind-read : (t : ℕ) → t < 16 → threadAt (stateOf w b) t .kind ≡ getD w (512 + t * 2) 0
+  pub kind-read : (t : ℕ) → t < threadCount → threadAt (stateOf w b) t .kind ≡ kindOf w t
   unfolding threadOf
   kind-read t h = ap (λ (x : Thread). x .kind) (thread-read t h)
 
-  pub len-read : (t : ℕ) → t < 16 → threadAt (stateOf w b) t .len ≡ getD w (513 + t * 2) 0
+  pub len-read : (t : ℕ) → t < threadCount → threadAt (stateOf w b) t .len ≡ lenOf w t
   unfolding threadOf
   len-read t h = ap (λ (x : Thread). x .len) (thread-read t h)
 
-  pub entry-read : (t k : ℕ) → t < 16 → k < 32 → getD (threadAt (stateOf w b) t .entries) k 0 ≡ getD b (t * 32 + k) 0
+  pub entry-read : (t k : ℕ) → t < threadCount → k < rowBytes → getD (threadAt (stateOf w b) t .entries) k 0 ≡ entryOf b t k
   unfolding threadOf
-  entry-read t k h g = ap (λ (x : Thread). getD (x .entries) k 0) (thread-read t h) ∙ getD-cut b (t * 32) 32 k g
+  entry-read t k h g = ap (λ (x : Thread). getD (x .entries) k 0) (thread-read t h) ∙ byte-read b t k g
 
-  pub inner-read : (t k : ℕ) → t < 16 → k < 32 → getD (threadAt (stateOf w b) t .inner) k 0 ≡ getD b (512 + t * 32 + k) 0
+  pub inner-read : (t k : ℕ) → t < threadCount → k < rowBytes → getD (threadAt (stateOf w b) t .inner) k 0 ≡ innerOf b t k
   unfolding threadOf
-  inner-read t k h g = ap (λ (x : Thread). getD (x .inner) k 0) (thread-read t h) ∙ getD-cut b (512 + t * 32) 32 k g
+  inner-read t k h g = ap (λ (x : Thread). getD (x .inner) k 0) (thread-read t h) ∙ byte-read b (innerRows + t) k g
 
-  pub lengths-read : stateOf w b .lengths ≡ lengthsOf w
+  pub lengths-read : stateOf w b .lengths ≡ lengthsRecord w
   unfolding stateOf
   lengths-read = refl
 
-  pub taken-read : stateOf w b .taken ≡ getD w 547 0
+  pub taken-read : stateOf w b .taken ≡ takenOf w
   unfolding stateOf
   taken-read = refl
 
-pub length-row : (b : List ℕ) (a : ℕ) → length (rowOf b a) ≡ 32
-unfolding rowOf
-length-row b a = length-cut b (1024 + a * 32) 32
+-- ---- two numbers
 
--- ---- an area is a run of seven words
+order : (a b : ℕ) → (b < a) ⊎ (a ≤ b)
+order a b = by (ltb b a) refl
+  where
+    by : (t : Bool) → ltb b a ≡ t → (b < a) ⊎ (a ≤ b)
+    by true e = inl (ltb-true b a e)
+    by false e = inr (ltb-false b a e)
+
+sides : (a b : ℕ) → b ≢ a → (b < a) ⊎ (a < b)
+sides a b ne = ⊎-elim (λ h. inl h) (λ h. inr (let z : b ≡ a → ⊥ = ne in omega arith)) (order a b)
+
+-- ---- a row of the bytes is written: it is r, and every other is kept
+
+record RowWritten (b b′ : List ℕ) (n : ℕ) (r : List ℕ) : Type 0 where
+  here : byteRow b′ n ≡ r
+  others : (m : ℕ) → m ≢ n → byteRow b′ m ≡ byteRow b m
+  long : length b′ ≡ byteCount
+
+module _ (b : List ℕ) (e : length b ≡ byteCount) (n : ℕ) (l : n < rowCount) where
+  -- a whole row
+  row-written : (r : List ℕ) → length r ≡ rowBytes → RowWritten b (putByteRow b n r) n r
+  unfolding byteRow putByteRow
+  row-written r k = record {
+    here = cut-put b (rowIndex n) r rowBytes k (omega arith);
+    others = λ m ne. cut-put-other b (rowIndex n) r (rowIndex m) rowBytes (⊎-elim (λ y. inl (omega arith)) (λ y. inr (omega arith)) (sides n m ne));
+    long = length-put b (rowIndex n) r ∙ e;
+  }
+
+  -- one byte
+  byte-written : (k v : ℕ) → k < rowBytes → RowWritten b (putByte b n k v) n (set (byteRow b n) k v)
+  unfolding byteRow
+  byte-written k v h = record {
+    here = cut-set b (rowIndex n) rowBytes k v h (omega arith);
+    others = λ m ne. cut-set-other b (rowIndex n + k) v (rowIndex m) rowBytes (⊎-elim (λ y. inr (omega arith)) (λ y. inl (omega arith)) (sides n m ne));
+    long = length-set b (rowIndex n + k) v ∙ e;
+  }
+
+-- ---- an area is a run of words
 
 areaFrom : List ℕ → Area
 areaFrom l = record { start = getD l 0 0; size = getD l 1 0; used = getD l 2 0; generation = getD l 3 0; count = getD l 4 0; parent = getD l 5 0; depth = getD l 6 0 }
@@ -67,98 +111,121 @@ areaFrom l = record { start = getD l 0 0; size = getD l 1 0; used = getD l 2 0; 
 wordsOf : Area → List ℕ
 wordsOf x = x .start ∷ x .size ∷ x .used ∷ x .generation ∷ x .count ∷ x .parent ∷ x .depth ∷ []
 
-area-cut : (w : List ℕ) (a : ℕ) → areaOf w a ≡ areaFrom (cut w (a * 8) 7)
+area-cut : (w : List ℕ) (a : ℕ) → areaRecord w a ≡ areaFrom (cut w (areaIndex a) 7)
 unfolding areaFrom
 area-cut w a =
-    let at : (k : ℕ) → k < 7 → getD (cut w (a * 8) 7) k 0 ≡ getD w (a * 8 + k) 0 = λ k h. getD-cut w (a * 8) 7 k h in
+    let at : (k : ℕ) → k < 7 → getD (cut w (areaIndex a) 7) k 0 ≡ getD w (areaIndex a + k) 0 = λ k h. getD-cut w (areaIndex a) 7 k h in
     rw (at 0 (omega arith), at 1 (omega arith), at 2 (omega arith), at 3 (omega arith), at 4 (omega arith), at 5 (omega arith), at 6 (omega arith), add-zero) refl
 
-area-put : (w : List ℕ) (a : ℕ) (x : Area) → putArea w a x ≡ put w (a * 8) (wordsOf x)
+area-put : (w : List ℕ) (a : ℕ) (x : Area) → putArea w a x ≡ put w (areaIndex a) (wordsOf x)
 unfolding put wordsOf
 area-put w a x =
-    let e1 : a * 8 + 1 ≡ suc (a * 8) = omega arith in
-    let e2 : a * 8 + 2 ≡ suc (suc (a * 8)) = omega arith in
-    let e3 : a * 8 + 3 ≡ suc (suc (suc (a * 8))) = omega arith in
-    let e4 : a * 8 + 4 ≡ suc (suc (suc (suc (a * 8)))) = omega arith in
-    let e5 : a * 8 + 5 ≡ suc (suc (suc (suc (suc (a * 8))))) = omega arith in
-    let e6 : a * 8 + 6 ≡ suc (suc (suc (suc (suc (suc (a * 8)))))) = omega arith in
+    let e1 : areaIndex a + 1 ≡ suc (areaIndex a) = omega arith in
+    let e2 : areaIndex a + 2 ≡ suc (suc (areaIndex a)) = omega arith in
+    let e3 : areaIndex a + 3 ≡ suc (suc (suc (areaIndex a))) = omega arith in
+    let e4 : areaIndex a + 4 ≡ suc (suc (suc (suc (areaIndex a)))) = omega arith in
+    let e5 : areaIndex a + 5 ≡ suc (suc (suc (suc (suc (areaIndex a))))) = omega arith in
+    let e6 : areaIndex a + 6 ≡ suc (suc (suc (suc (suc (suc (areaIndex a)))))) = omega arith in
     cc
 
--- two numbers that differ
-sides : (a b : ℕ) → b ≢ a → (b < a) ⊎ (a < b)
-sides a b ne = by (ltb b a) refl
-  where
-    by : (t : Bool) → ltb b a ≡ t → (b < a) ⊎ (a < b)
-    by true e = inl (ltb-true b a e)
-    by false e = inr (let h : a ≤ b = ltb-false b a e in let z : b ≡ a → ⊥ = ne in omega arith)
+-- the state with other lengths
+abbrev pub withLengths : State → Lengths → State
+withLengths s n = record { areas = s .areas; rows = s .rows; threads = s .threads; lengths = n; taken = s .taken }
+
+-- ---- words that are kept
+
+-- the spare words are 0
+abbrev Spared : List ℕ → Type 0
+Spared w = (a : ℕ) → a < areaCount → spareOf w a ≡ 0
+
+module _ (w w′ : List ℕ) where
+  -- the areas, and their spare words
+  module _ (low : (j : ℕ) → j < threadsAt → getD w′ j 0 ≡ getD w j 0) where
+    areas-kept : each (areaRecord w′) areaCount ≡ each (areaRecord w) areaCount
+    areas-kept = each-same (areaRecord w) (areaRecord w′) areaCount noArea (λ j l.
+        rw (low (areaIndex j) (omega arith), low (areaIndex j + 1) (omega arith), low (areaIndex j + 2) (omega arith), low (areaIndex j + 3) (omega arith), low (areaIndex j + 4) (omega arith), low (areaIndex j + 5) (omega arith), low (areaIndex j + 6) (omega arith)) refl)
+
+    spare-kept : Spared w → Spared w′
+    spare-kept s a l = low (areaIndex a + 7) (omega arith) ∙ s a l
+
+  -- the threads
+  threads-kept : ((j : ℕ) → threadsAt ≤ j → j < lengthsAt → getD w′ j 0 ≡ getD w j 0) → (b : List ℕ) → each (threadOf w′ b) threadCount ≡ each (threadOf w b) threadCount
+  unfolding threadOf
+  threads-kept mid b = each-same (threadOf w b) (threadOf w′ b) threadCount noThread (λ j l.
+      rw (mid (kindIndex j) (omega arith) (omega arith), mid (lenIndex j) (omega arith) (omega arith)) refl)
 
 module _ (w b : List ℕ) where
   -- ---- an area is written
 
-  area-laid : (a : ℕ) (x : Area) → a < 64 → length w ≡ 548 → stateOf (put w (a * 8) (wordsOf x)) b ≡ withArea (stateOf w b) a x
-  unfolding stateOf withArea threadOf wordsOf areaFrom
+  area-laid : (a : ℕ) (x : Area) → a < areaCount → length w ≡ wordCount → stateOf (put w (areaIndex a) (wordsOf x)) b ≡ withArea (stateOf w b) a x
+  unfolding stateOf withArea wordsOf areaFrom
   area-laid a x h e =
-      let v : List ℕ = put w (a * 8) (wordsOf x) in
-      let same : areaOf v a ≡ x = area-cut v a ∙ ap areaFrom (cut-put w (a * 8) (wordsOf x) 7 refl (omega arith)) in
-      let areas : each (areaOf v) 64 ≡ set (each (areaOf w) 64) a x
-      = each-set (areaOf w) (areaOf v) 64 a x same
-      (λ j l ne. area-cut v j ∙ ap areaFrom (cut-put-other w (a * 8) (wordsOf x) (j * 8) 7 (⊎-elim (λ y. inl (omega arith)) (λ y. inr (omega arith)) (sides a j ne))) ∙ sym (area-cut w j)) in
-      let high : (j : ℕ) → 512 ≤ j → getD v j 0 ≡ getD w j 0 = λ j l. getD-put-other w (a * 8) (wordsOf x) j (inr (omega arith)) in
-      let threads : each (threadOf v b) 16 ≡ each (threadOf w b) 16
-      = each-same (threadOf w b) (threadOf v b) 16 noThread
-      (λ j l. rw (high (512 + j * 2) (omega arith), high (513 + j * 2) (omega arith)) refl) in
-      rw (areas, threads, high 544 (omega arith), high 545 (omega arith), high 546 (omega arith), high 547 (omega arith)) refl
+      let v : List ℕ = put w (areaIndex a) (wordsOf x) in
+      let same : areaRecord v a ≡ x = area-cut v a ∙ ap areaFrom (cut-put w (areaIndex a) (wordsOf x) 7 refl (omega arith)) in
+      let areas : each (areaRecord v) areaCount ≡ set (each (areaRecord w) areaCount) a x
+      = each-set (areaRecord w) (areaRecord v) areaCount a x same
+      (λ j l ne. area-cut v j ∙ ap areaFrom (cut-put-other w (areaIndex a) (wordsOf x) (areaIndex j) 7 (⊎-elim (λ y. inl (omega arith)) (λ y. inr (omega arith)) (sides a j ne))) ∙ sym (area-cut w j)) in
+      let high : (j : ℕ) → threadsAt ≤ j → getD v j 0 ≡ getD w j 0 = λ j l. getD-put-other w (areaIndex a) (wordsOf x) j (inr (omega arith)) in
+      rw (areas, threads-kept w v (λ j l k. high j l) b, high lengthsAt (omega arith), high (lengthsAt + 1) (omega arith), high (lengthsAt + 2) (omega arith), high takenAt (omega arith)) refl
 
-  pub state-area : (a : ℕ) (x : Area) → a < 64 → Sized w b → Holds (putArea w a x) b (withArea (stateOf w b) a x)
+  -- the spare words are passed over
+  area-spare : (a : ℕ) (x : Area) → Spared w → Spared (putArea w a x)
+  unfolding wordsOf
+  area-spare a x s j l =
+      ap (λ (v : List ℕ). spareOf v j) (area-put w a x)
+      ∙ getD-put-other w (areaIndex a) (wordsOf x) (areaIndex j + 7) (⊎-elim (λ y. inl (omega arith)) (λ y. inr (omega arith)) (order a j))
+      ∙ s j l
+
+  pub state-area : (a : ℕ) (x : Area) → a < areaCount → Shaped w b → Holds (putArea w a x) b (withArea (stateOf w b) a x)
   state-area a x h z = record {
-    sized = record { words = simp length-set (z .words); bytes = z .bytes };
+    sized = record { words = simp length-set (z .words); bytes = z .bytes; spare = area-spare a x (z .spare) };
     state = ap (λ (v : List ℕ). stateOf v b) (area-put w a x) ∙ area-laid a x h (z .words);
   }
 
   -- ---- a display is written
 
-  pub state-row : (a : ℕ) (r : List ℕ) → a < 64 → length r ≡ 32 → Sized w b → Holds w (putRow b a r) (withRow (stateOf w b) a r)
-  unfolding stateOf withRow putRow rowOf threadOf
+  pub state-row : (a : ℕ) (r : List ℕ) → a < areaCount → length r ≡ rowBytes → Shaped w b → Holds w (putRow b a r) (withRow (stateOf w b) a r)
+  unfolding stateOf withRow putRow displayRow threadOf
   state-row a r h k z =
-      let e : length b ≡ 3072 = z .bytes in
-      let rows : each (rowOf (putRow b a r)) 64 ≡ set (each (rowOf b) 64) a r
-      = each-set (rowOf b) (rowOf (putRow b a r)) 64 a r (cut-put b (1024 + a * 32) r 32 k (omega arith))
-      (λ j l ne. cut-put-other b (1024 + a * 32) r (1024 + j * 32) 32 (⊎-elim (λ y. inl (omega arith)) (λ y. inr (omega arith)) (sides a j ne))) in
-      let threads : each (threadOf w (putRow b a r)) 16 ≡ each (threadOf w b) 16
-      = each-same (threadOf w b) (threadOf w (putRow b a r)) 16 noThread
-      (λ j l. rw (cut-put-other b (1024 + a * 32) r (j * 32) 32 (inl (omega arith)), cut-put-other b (1024 + a * 32) r (512 + j * 32) 32 (inl (omega arith))) refl) in
-      record { sized = record { words = z .words; bytes = length-put b (1024 + a * 32) r ∙ e }; state = rw (rows, threads) refl }
+      let p : RowWritten b (putRow b a r) (displayRows + a) r = row-written b (z .bytes) (displayRows + a) (omega arith) r k in
+      let rows : each (displayRow (putRow b a r)) areaCount ≡ set (each (displayRow b) areaCount) a r
+      = each-set (displayRow b) (displayRow (putRow b a r)) areaCount a r (p .here) (λ j l ne. p .others (displayRows + j) (λ e. ne (omega arith))) in
+      let threads : each (threadOf w (putRow b a r)) threadCount ≡ each (threadOf w b) threadCount
+      = each-same (threadOf w b) (threadOf w (putRow b a r)) threadCount noThread
+      (λ j l. rw (p .others j (λ e. omega arith), p .others (innerRows + j) (λ e. omega arith)) refl) in
+      record { sized = record { words = z .words; bytes = p .long; spare = z .spare }; state = rw (rows, threads) refl }
 
   -- ---- a thread is written: its kind, its length, its entries
 
-  pub record ThreadWritten (w′ b′ : List ℕ) (t : ℕ) (h : Thread) : Type 0 where
-    pub here : threadOf w′ b′ t ≡ h
-    pub words : (j : ℕ) → j ≢ 512 + t * 2 → j ≢ 513 + t * 2 → getD w′ j 0 ≡ getD w j 0
-    pub bytes : (j : ℕ) → (j < t * 32) ⊎ (t * 32 + 32 ≤ j) → (j < 512 + t * 32) ⊎ (512 + t * 32 + 32 ≤ j) → getD b′ j 0 ≡ getD b j 0
+  record ThreadWritten (w′ b′ : List ℕ) (t : ℕ) (h : Thread) : Type 0 where
+    here : threadOf w′ b′ t ≡ h
+    words : (j : ℕ) → j ≢ kindIndex t → j ≢ lenIndex t → getD w′ j 0 ≡ getD w j 0
+    rows : (n : ℕ) → n ≢ t → n ≢ innerRows + t → byteRow b′ n ≡ byteRow b n
+    long : length w′ ≡ wordCount
+    wide : length b′ ≡ byteCount
 
-  thread-laid : (w′ b′ : List ℕ) (t : ℕ) (h : Thread) → t < 16 → ThreadWritten w′ b′ t h → stateOf w′ b′ ≡ withThread (stateOf w b) t h
-  unfolding stateOf withThread rowOf threadOf
-  thread-laid w′ b′ t h lt z =
-      let off : (j : ℕ) → (j < 512) ⊎ (544 ≤ j) → getD w′ j 0 ≡ getD w j 0
-      = λ j k. z .words j (λ e. ⊎-elim (λ y. omega arith) (λ y. omega arith) k) (λ e. ⊎-elim (λ y. omega arith) (λ y. omega arith) k) in
-      let areas : each (areaOf w′) 64 ≡ each (areaOf w) 64
-      = each-same (areaOf w) (areaOf w′) 64 noArea (λ j l.
-      rw (off (j * 8) (inl (omega arith)), off (j * 8 + 1) (inl (omega arith)), off (j * 8 + 2) (inl (omega arith)), off (j * 8 + 3) (inl (omega arith)), off (j * 8 + 4) (inl (omega arith)), off (j * 8 + 5) (inl (omega arith)), off (j * 8 + 6) (inl (omega arith))) refl) in
-      let rows : each (rowOf b′) 64 ≡ each (rowOf b) 64
-      = each-same (rowOf b) (rowOf b′) 64 [] (λ j l. cut-ext b′ b (1024 + j * 32) 32 (λ k g. z .bytes (1024 + j * 32 + k) (inr (omega arith)) (inr (omega arith)))) in
-      let threads : each (threadOf w′ b′) 16 ≡ set (each (threadOf w b) 16) t h
-      = each-set (threadOf w b) (threadOf w′ b′) 16 t h (z .here) (λ j l ne.
-      let s : (j < t) ⊎ (t < j) = sides t j ne in
+  thread-laid : (w′ b′ : List ℕ) (t : ℕ) (h : Thread) → t < threadCount → Shaped w b → ThreadWritten w′ b′ t h → Holds w′ b′ (withThread (stateOf w b) t h)
+  unfolding stateOf withThread displayRow threadOf
+  thread-laid w′ b′ t h lt s z =
+      let low : (j : ℕ) → j < threadsAt → getD w′ j 0 ≡ getD w j 0 = λ j k. z .words j (λ e. omega arith) (λ e. omega arith) in
+      let high : (j : ℕ) → lengthsAt ≤ j → getD w′ j 0 ≡ getD w j 0 = λ j k. z .words j (λ e. omega arith) (λ e. omega arith) in
+      let rows : each (displayRow b′) areaCount ≡ each (displayRow b) areaCount
+      = each-same (displayRow b) (displayRow b′) areaCount [] (λ j l. z .rows (displayRows + j) (λ e. omega arith) (λ e. omega arith)) in
+      let threads : each (threadOf w′ b′) threadCount ≡ set (each (threadOf w b) threadCount) t h
+      = each-set (threadOf w b) (threadOf w′ b′) threadCount t h (z .here) (λ j l ne.
       rw (
-        z .words (512 + j * 2) (λ e. ne (omega arith)) (λ e. omega arith),
-        z .words (513 + j * 2) (λ e. omega arith) (λ e. ne (omega arith)),
-        cut-ext b′ b (j * 32) 32 (λ k g. z .bytes (j * 32 + k) (⊎-elim (λ y. inl (omega arith)) (λ y. inr (omega arith)) s) (inl (omega arith))),
-        cut-ext b′ b (512 + j * 32) 32 (λ k g. z .bytes (512 + j * 32 + k) (inr (omega arith)) (⊎-elim (λ y. inl (omega arith)) (λ y. inr (omega arith)) s)),
+        z .words (kindIndex j) (λ e. ne (omega arith)) (λ e. omega arith),
+        z .words (lenIndex j) (λ e. omega arith) (λ e. ne (omega arith)),
+        z .rows j ne (λ e. omega arith),
+        z .rows (innerRows + j) (λ e. omega arith) (λ e. ne (omega arith)),
       ) refl) in
-      rw (areas, rows, threads, off 544 (inr (omega arith)), off 545 (inr (omega arith)), off 546 (inr (omega arith)), off 547 (inr (omega arith))) refl
+      record {
+        sized = record { words = z .long; bytes = z .wide; spare = spare-kept w w′ low (s .spare) };
+        state = rw (areas-kept w w′ low, rows, threads, high lengthsAt (omega arith), high (lengthsAt + 1) (omega arith), high (lengthsAt + 2) (omega arith), high takenAt (omega arith)) refl;
+      }
 
   -- an entry goes on a stack at a place, with the innermost scope as of it
-  pub state-push : (t k n v i : ℕ) → t < 16 → k < 32 → Sized w b
+  pub state-push : (t k n v i : ℕ) → t < threadCount → k < rowBytes → Shaped w b
       → Holds (putLen w t n) (putInner (putEntry b t k v) t k i)
       (withThread (stateOf w b) t (record {
         kind = threadAt (stateOf w b) t .kind;
@@ -168,28 +235,27 @@ module _ (w b : List ℕ) where
       }))
   unfolding threadOf
   state-push t k n v i lt lk z =
-      let l1 : length (putEntry b t k v) ≡ 3072 = length-set b (t * 32 + k) v ∙ z .bytes in
-      let zb : length b ≡ 3072 = z .bytes in
-      let zw : length w ≡ 548 = z .words in
-      record {
-        sized = record { words = simp length-set (z .words); bytes = simp length-set (z .bytes) };
-        state = rw (thread-read w b t lt) (thread-laid (putLen w t n) (putInner (putEntry b t k v) t k i) t _ lt (record {
-          here = rw (
-            getD-set-other w (513 + t * 2) (512 + t * 2) n 0 (λ e. omega arith),
-            getD-set-same w (513 + t * 2) n 0 (omega arith),
-            cut-set-other (putEntry b t k v) (512 + t * 32 + k) i (t * 32) 32 (inr (omega arith)),
-            cut-set b (t * 32) 32 k v lk (omega arith),
-            cut-set (putEntry b t k v) (512 + t * 32) 32 k i lk (omega arith),
-            cut-set-other b (t * 32 + k) v (512 + t * 32) 32 (inl (omega arith)),
-          ) refl;
-          words = λ j p q. getD-set-other w (513 + t * 2) j n 0 q;
-          bytes = λ j p q. getD-set-other (putEntry b t k v) (512 + t * 32 + k) j i 0 (λ e. ⊎-elim (λ y. omega arith) (λ y. omega arith) q)
-              ∙ getD-set-other b (t * 32 + k) j v 0 (λ e. ⊎-elim (λ y. omega arith) (λ y. omega arith) p);
-        }));
-      }
+      let c : List ℕ = putEntry b t k v in
+      let p : RowWritten b c t (set (byteRow b t) k v) = byte-written b (z .bytes) t (omega arith) k v lk in
+      let q : RowWritten c (putInner c t k i) (innerRows + t) (set (byteRow c (innerRows + t)) k i) = byte-written c (p .long) (innerRows + t) (omega arith) k i lk in
+      let zw : length w ≡ wordCount = z .words in
+      rw (thread-read w b t lt) (thread-laid (putLen w t n) (putInner c t k i) t _ lt z (record {
+        here = rw (
+          getD-set-other w (lenIndex t) (kindIndex t) n 0 (λ e. omega arith),
+          getD-set-same w (lenIndex t) n 0 (omega arith),
+          q .others t (λ e. omega arith),
+          p .here,
+          q .here,
+          p .others (innerRows + t) (λ e. omega arith),
+        ) refl;
+        words = λ j e f. getD-set-other w (lenIndex t) j n 0 f;
+        rows = λ m e f. q .others m f ∙ p .others m e;
+        long = simp length-set (z .words);
+        wide = q .long;
+      }))
 
   -- a stack gets another length
-  pub state-len : (t n : ℕ) → t < 16 → Sized w b
+  pub state-len : (t n : ℕ) → t < threadCount → Shaped w b
       → Holds (putLen w t n) b
       (withThread (stateOf w b) t (record {
         kind = threadAt (stateOf w b) t .kind;
@@ -199,18 +265,17 @@ module _ (w b : List ℕ) where
       }))
   unfolding threadOf
   state-len t n lt z =
-      let zw : length w ≡ 548 = z .words in
-      record {
-        sized = record { words = simp length-set (z .words); bytes = z .bytes };
-        state = rw (thread-read w b t lt) (thread-laid (putLen w t n) b t _ lt (record {
-          here = rw (getD-set-other w (513 + t * 2) (512 + t * 2) n 0 (λ e. omega arith), getD-set-same w (513 + t * 2) n 0 (omega arith)) refl;
-          words = λ j p q. getD-set-other w (513 + t * 2) j n 0 q;
-          bytes = λ j p q. refl;
-        }));
-      }
+      let zw : length w ≡ wordCount = z .words in
+      rw (thread-read w b t lt) (thread-laid (putLen w t n) b t _ lt z (record {
+        here = rw (getD-set-other w (lenIndex t) (kindIndex t) n 0 (λ e. omega arith), getD-set-same w (lenIndex t) n 0 (omega arith)) refl;
+        words = λ j e f. getD-set-other w (lenIndex t) j n 0 f;
+        rows = λ m e f. refl;
+        long = simp length-set (z .words);
+        wide = z .bytes;
+      }))
 
   -- a thread gets another kind
-  pub state-kind : (t n : ℕ) → t < 16 → Sized w b
+  pub state-kind : (t n : ℕ) → t < threadCount → Shaped w b
       → Holds (putKind w t n) b
       (withThread (stateOf w b) t (record {
         kind = n;
@@ -220,29 +285,126 @@ module _ (w b : List ℕ) where
       }))
   unfolding threadOf
   state-kind t n lt z =
-      let zw : length w ≡ 548 = z .words in
+      let zw : length w ≡ wordCount = z .words in
+      rw (thread-read w b t lt) (thread-laid (putKind w t n) b t _ lt z (record {
+        here = rw (getD-set-same w (kindIndex t) n 0 (omega arith), getD-set-other w (kindIndex t) (lenIndex t) n 0 (λ e. omega arith)) refl;
+        words = λ j e f. getD-set-other w (kindIndex t) j n 0 e;
+        rows = λ m e f. refl;
+        long = simp length-set (z .words);
+        wide = z .bytes;
+      }))
+
+  -- ---- the lengths and the number of scratch words taken are written
+
+  tail-laid : (w′ : List ℕ) (n : Lengths) (k : ℕ) → Shaped w b → length w′ ≡ wordCount → ((j : ℕ) → j < lengthsAt → getD w′ j 0 ≡ getD w j 0)
+      → lengthsRecord w′ ≡ n → takenOf w′ ≡ k → Holds w′ b (record { areas = stateOf w b .areas; rows = stateOf w b .rows; threads = stateOf w b .threads; lengths = n; taken = k })
+  unfolding stateOf
+  tail-laid w′ n k z e low p q =
+      let below : (j : ℕ) → j < threadsAt → getD w′ j 0 ≡ getD w j 0 = λ j h. low j (omega arith) in
       record {
-        sized = record { words = simp length-set (z .words); bytes = z .bytes };
-        state = rw (thread-read w b t lt) (thread-laid (putKind w t n) b t _ lt (record {
-          here = rw (getD-set-same w (512 + t * 2) n 0 (omega arith), getD-set-other w (512 + t * 2) (513 + t * 2) n 0 (λ e. omega arith)) refl;
-          words = λ j p q. getD-set-other w (512 + t * 2) j n 0 p;
-          bytes = λ j p q. refl;
-        }));
+        sized = record { words = e; bytes = z .bytes; spare = spare-kept w w′ below (z .spare) };
+        state = λ i. record {
+          areas = areas-kept w w′ below i;
+          rows = each (displayRow b) areaCount;
+          threads = threads-kept w w′ (λ j l h. low j h) b i;
+          lengths = p i;
+          taken = q i;
+        };
       }
 
-  -- ---- the number of scratch words taken is written
-
-  pub state-taken : (n : ℕ) → Sized w b → Holds (putTaken w n) b (withTaken (stateOf w b) n)
-  unfolding stateOf withTaken threadOf
+  pub state-taken : (n : ℕ) → Shaped w b → Holds (putTaken w n) b (withTaken (stateOf w b) n)
+  unfolding withTaken stateOf
   state-taken n z =
-      let zw : length w ≡ 548 = z .words in
-      let off : (j : ℕ) → j < 547 → getD (putTaken w n) j 0 ≡ getD w j 0 = λ j k. getD-set-other w 547 j n 0 (λ e. omega arith) in
-      let areas : each (areaOf (putTaken w n)) 64 ≡ each (areaOf w) 64
-      = each-same (areaOf w) (areaOf (putTaken w n)) 64 noArea (λ j l.
-      rw (off (j * 8) (omega arith), off (j * 8 + 1) (omega arith), off (j * 8 + 2) (omega arith), off (j * 8 + 3) (omega arith), off (j * 8 + 4) (omega arith), off (j * 8 + 5) (omega arith), off (j * 8 + 6) (omega arith)) refl) in
-      let threads : each (threadOf (putTaken w n) b) 16 ≡ each (threadOf w b) 16
-      = each-same (threadOf w b) (threadOf (putTaken w n) b) 16 noThread (λ j l. rw (off (512 + j * 2) (omega arith), off (513 + j * 2) (omega arith)) refl) in
-      record {
-        sized = record { words = simp length-set (z .words); bytes = z .bytes };
-        state = rw (areas, threads, off 544 (omega arith), off 545 (omega arith), off 546 (omega arith), getD-set-same w 547 n 0 (omega arith)) refl;
-      }
+      let zw : length w ≡ wordCount = z .words in
+      let off : (j : ℕ) → j < takenAt → getD (putTaken w n) j 0 ≡ getD w j 0 = λ j k. getD-set-other w takenAt j n 0 (λ e. omega arith) in
+      tail-laid (putTaken w n) (lengthsRecord w) n z (simp length-set zw) (λ j h. off j (omega arith))
+      (rw (off lengthsAt (omega arith), off (lengthsAt + 1) (omega arith), off (lengthsAt + 2) (omega arith)) refl) (getD-set-same w takenAt n 0 (omega arith))
+
+  pub state-lengths : (n : Lengths) → Shaped w b → Holds (putLengths w n) b (withLengths (stateOf w b) n)
+  unfolding stateOf
+  state-lengths n z =
+      let zw : length w ≡ wordCount = z .words in
+      let u : List ℕ = set w lengthsAt (n .permanent) in
+      let v : List ℕ = set u (lengthsAt + 1) (n .scratch) in
+      let lu : length u ≡ wordCount = length-set w lengthsAt (n .permanent) ∙ zw in
+      let lv : length v ≡ wordCount = length-set u (lengthsAt + 1) (n .scratch) ∙ lu in
+      let off : (j : ℕ) → j ≢ lengthsAt → j ≢ lengthsAt + 1 → j ≢ lengthsAt + 2 → getD (putLengths w n) j 0 ≡ getD w j 0
+      = λ j a c d. getD-set-other v (lengthsAt + 2) j (n .map) 0 d ∙ getD-set-other u (lengthsAt + 1) j (n .scratch) 0 c ∙ getD-set-other w lengthsAt j (n .permanent) 0 a in
+      let a : getD (putLengths w n) lengthsAt 0 ≡ n .permanent
+      = getD-set-other v (lengthsAt + 2) lengthsAt (n .map) 0 (λ e. omega arith) ∙ getD-set-other u (lengthsAt + 1) lengthsAt (n .scratch) 0 (λ e. omega arith) ∙ getD-set-same w lengthsAt (n .permanent) 0 (omega arith) in
+      let c : getD (putLengths w n) (lengthsAt + 1) 0 ≡ n .scratch
+      = getD-set-other v (lengthsAt + 2) (lengthsAt + 1) (n .map) 0 (λ e. omega arith) ∙ getD-set-same u (lengthsAt + 1) (n .scratch) 0 (omega arith) in
+      let d : getD (putLengths w n) (lengthsAt + 2) 0 ≡ n .map = getD-set-same v (lengthsAt + 2) (n .map) 0 (omega arith) in
+      tail-laid (putLengths w n) n (takenOf w) z (simp length-set zw) (λ j h. off j (λ e. omega arith) (λ e. omega arith) (λ e. omega arith))
+      (rw (a, c, d) refl) (off takenAt (λ e. omega arith) (λ e. omega arith) (λ e. omega arith))
+
+-- ---- every word of the tables is read or spare, and every byte is read: the tables are told by their state
+
+-- the 8 words of an area
+spaced : Area → List ℕ
+spaced x = x .start ∷ x .size ∷ x .used ∷ x .generation ∷ x .count ∷ x .parent ∷ x .depth ∷ 0 ∷ []
+
+module _ {w b : List ℕ} (z : Shaped w b) where
+  area-words : (a : ℕ) → a < areaCount → cut w (areaIndex a) areaWords ≡ spaced (areaAt (stateOf w b) a)
+  unfolding cut each from spaced
+  area-words a h = rw (area-read w b a h, z .spare a h, add-zero) refl
+
+  area-word : (j : ℕ) → j < threadsAt → getD w j 0 ≡ getD (spaced (areaAt (stateOf w b) (j / areaWords))) (j % areaWords) 0
+  area-word j h =
+      let e : areaIndex (j / areaWords) + j % areaWords ≡ j = omega arith in
+      ap (λ (i : ℕ). getD w i 0) (sym e) ∙ sym (getD-cut w (areaIndex (j / areaWords)) areaWords (j % areaWords) (omega arith))
+      ∙ ap (λ (l : List ℕ). getD l (j % areaWords) 0) (area-words (j / areaWords) (omega arith))
+
+module _ {w b w′ b′ : List ℕ} (z : Shaped w b) (z′ : Shaped w′ b′) (e : stateOf w b ≡ stateOf w′ b′) where
+  thread-same : (t : ℕ) → t < threadCount → threadOf w b t ≡ threadOf w′ b′ t
+  thread-same t h = sym (thread-read w b t h) ∙ ap (λ (s : State). threadAt s t) e ∙ thread-read w′ b′ t h
+
+  word-same : (j : ℕ) → j < wordCount → getD w j 0 ≡ getD w′ j 0
+  unfolding stateOf threadOf
+  word-same j l = ⊎-elim low (λ h. ⊎-elim (λ k. middle h k) (λ k. high (j - lengthsAt) (omega arith)) (order lengthsAt j)) (order threadsAt j)
+    where
+      low : j < threadsAt → getD w j 0 ≡ getD w′ j 0
+      low h = area-word z j h ∙ ap (λ (s : State). getD (spaced (areaAt s (j / areaWords))) (j % areaWords) 0) e ∙ sym (area-word z′ j h)
+
+      kind : (t : ℕ) → t < threadCount → j ≡ kindIndex t → getD w j 0 ≡ getD w′ j 0
+      kind t h q = rw q (ap (λ (x : Thread). x .kind) (thread-same t h))
+
+      len : (t : ℕ) → t < threadCount → j ≡ lenIndex t → getD w j 0 ≡ getD w′ j 0
+      len t h q = rw q (ap (λ (x : Thread). x .len) (thread-same t h))
+
+      middle : threadsAt ≤ j → j < lengthsAt → getD w j 0 ≡ getD w′ j 0
+      middle h k =
+          ⊎-elim (λ o. kind ((j - threadsAt) / threadWords) (omega arith) (omega arith)) (λ o. len ((j - threadsAt) / threadWords) (omega arith) (omega arith)) (order 1 (j % threadWords))
+
+      high : (i : ℕ) → j ≡ lengthsAt + i → getD w j 0 ≡ getD w′ j 0
+      high zero q = rw q (ap (λ (s : State). s .lengths .permanent) e)
+      high (suc zero) q = rw q (ap (λ (s : State). s .lengths .scratch) e)
+      high (suc (suc zero)) q = rw q (ap (λ (s : State). s .lengths .map) e)
+      high (suc (suc (suc zero))) q = rw q (ap (λ (s : State). s .taken) e)
+      high (suc (suc (suc (suc i)))) q = absurd (omega arith)
+
+  row-same : (n : ℕ) → n < rowCount → byteRow b n ≡ byteRow b′ n
+  unfolding threadOf displayRow
+  row-same n l = ⊎-elim entries (λ h. ⊎-elim (λ k. inner (n - innerRows) (omega arith) (omega arith)) (λ k. display (n - displayRows) (omega arith) (omega arith)) (order displayRows n)) (order innerRows n)
+    where
+      entries : n < threadCount → byteRow b n ≡ byteRow b′ n
+      entries h = ap (λ (x : Thread). x .entries) (thread-same n h)
+
+      inner : (t : ℕ) → t < threadCount → n ≡ innerRows + t → byteRow b n ≡ byteRow b′ n
+      inner t h q = rw q (ap (λ (x : Thread). x .inner) (thread-same t h))
+
+      display : (a : ℕ) → a < areaCount → n ≡ displayRows + a → byteRow b n ≡ byteRow b′ n
+      display a h q = rw q (sym (row-read w b a h) ∙ ap (λ (s : State). rowAt s a) e ∙ row-read w′ b′ a h)
+
+  byte-same : (j : ℕ) → j < byteCount → getD b j 0 ≡ getD b′ j 0
+  byte-same j l =
+      let q : rowIndex (j / rowBytes) + j % rowBytes ≡ j = omega arith in
+      let at : (c : List ℕ) → getD c j 0 ≡ getD (byteRow c (j / rowBytes)) (j % rowBytes) 0
+      = λ c. ap (λ (i : ℕ). getD c i 0) (sym q) ∙ sym (byte-read c (j / rowBytes) (j % rowBytes) (omega arith)) in
+      at b ∙ ap (λ (r : List ℕ). getD r (j % rowBytes) 0) (row-same (j / rowBytes) (omega arith)) ∙ sym (at b′)
+
+  pub tables-same : (w ≡ w′) × (b ≡ b′)
+  tables-same = (
+    ext-getD 0 w w′ (z .words ∙ sym (z′ .words)) (λ j h. word-same j (omega (arith, z .words))),
+    ext-getD 0 b b′ (z .bytes ∙ sym (z′ .bytes)) (λ j h. byte-same j (omega (arith, z .bytes))),
+  )

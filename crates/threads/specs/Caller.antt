@@ -15,12 +15,12 @@ use Rattle.model.specs.State.{State, Memory, threadAt}
 use Rattle.model.specs.Checks.{fits, isStarted, called, admit}
 use Rattle.model.proofs.Accepted.{Called, called-ok, Admitted, admitted}
 use Rattle.model.proofs.Outcomes.{unfit-fitted, fit-fitted}
-use Rattle.tables.specs.Decode.{stateOf, lengthsOf}
+use Rattle.tables.specs.Decode.{stateOf, lengthsRecord}
 use Rattle.tables.specs.Laws.{lengths-read}
 
 -- ---- the three lengths, where o are those of set-up
 
-module _ (w b : List ℕ) (m : Memory) (o : Lengths) (e : o ≡ lengthsOf w) where
+module _ (w b : List ℕ) (m : Memory) (o : Lengths) (e : o ≡ lengthsRecord w) where
   own : stateOf w b .lengths ≡ o
   own = lengths-read w b ∙ sym e
 

@@ -2,13 +2,13 @@
 -- Assumes nothing.
 use mathlib.Core.Path.{_≡_, ap, sym, _∙_}
 use mathlib.Core.List.{List, []}
-use Prim.Native.Nat.{ℕ, suc, _+_, _-_, _*_, _≤_, _<_}
+use Prim.Native.Nat.{ℕ, suc, _-_, _≤_, _<_}
 use native.Mathlib.Omega.{arith}
 use lib.ListN.{getD}
 use Rattle.layout.specs.Stack.{down}
 use Rattle.model.specs.State.{Thread, threadAt, entriesOf, stackAt, current, innermost}
 use Rattle.model.specs.Invariant.{ThreadGood}
-use Rattle.tables.specs.Decode.{stateOf}
+use Rattle.tables.specs.Decode.{stateOf, lenOf, entryOf, innerOf}
 use Rattle.tables.specs.Laws.{len-read, entry-read, inner-read}
 use Rattle.tables.specs.Contract.{Ready}
 
@@ -37,7 +37,7 @@ module _ (h : Thread) where
 
 -- ---- of a thread in the tables, where n is the length of its stack
 
-module _ (w b : List ℕ) (r : Ready w b) (t : ℕ) (h : t < 16) (n : ℕ) (e : n ≡ getD w (513 + t * 2) 0) where
+module _ (w b : List ℕ) (r : Ready w b) (t : ℕ) (h : t < 16) (n : ℕ) (e : n ≡ lenOf w t) where
   length-is : threadAt (stateOf w b) t .len ≡ n
   length-is = len-read w b t h ∙ sym e
 
@@ -50,12 +50,12 @@ module _ (w b : List ℕ) (r : Ready w b) (t : ℕ) (h : t < 16) (n : ℕ) (e : 
   pub no-inner : n ≡ 0 → 0 ≡ innermost (stackAt (stateOf w b) t)
   no-inner z = sym (inner-none (threadAt (stateOf w b) t) (length-is ∙ z))
 
-  pub top-current : 0 < n → getD b (t * 32 + (n - 1)) 0 ≡ current (stackAt (stateOf w b) t)
+  pub top-current : 0 < n → entryOf b t (n - 1) ≡ current (stackAt (stateOf w b) t)
   top-current o =
       sym (current-top (threadAt (stateOf w b) t) (n - 1) (length-is ∙ omega arith)
       ∙ entry-read w b t (n - 1) h (omega (arith, length-bound)))
 
-  pub top-inner : 0 < n → getD b (512 + t * 32 + (n - 1)) 0 ≡ innermost (stackAt (stateOf w b) t)
+  pub top-inner : 0 < n → innerOf b t (n - 1) ≡ innermost (stackAt (stateOf w b) t)
   top-inner o =
       sym (inner-top (threadAt (stateOf w b) t) (r .good .threads .each t h) (n - 1) (length-is ∙ omega arith)
       ∙ inner-read w b t (n - 1) h (omega (arith, length-bound)))

@@ -12,11 +12,11 @@ pub fn current_area(words: &Words, bytes: &Bytes, t: usize) -> u8
     requires { ⌜ Usable words bytes × (t < 16) ⌝ }
     ensures { λ r. ⌜ r ≡ current (stackAt (before words bytes) t) ⌝ }
 {
-    let len = stacks::len_at(words, t) as usize;
+    let len = tables::len_at(words, t) as usize;
     if len == 0 {
         return 0;
     }
-    stacks::entry_at(bytes, t, Place(len - 1))
+    tables::entry_at(bytes, t, Place(len - 1))
 }
 
 // The innermost scope, or 0 where there is none: one look (source 004, Algorithm 6).
@@ -24,9 +24,9 @@ pub fn innermost_scope(words: &Words, bytes: &Bytes, t: usize) -> u8
     requires { ⌜ Usable words bytes × (t < 16) ⌝ }
     ensures { λ r. ⌜ r ≡ innermost (stackAt (before words bytes) t) ⌝ }
 {
-    let entries = stacks::len_at(words, t) as usize;
+    let entries = tables::len_at(words, t) as usize;
     if entries == 0 {
         return 0;
     }
-    stacks::inner_at(bytes, t, Place(entries - 1))
+    tables::inner_at(bytes, t, Place(entries - 1))
 }

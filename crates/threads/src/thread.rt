@@ -1,6 +1,6 @@
 // Ops 01 and 02: threads start and end.
 use crate::caller;
-use layout::stack::Answer;
+use layout::answer::Answer;
 use tables::Bytes;
 use tables::Words;
 ghost use mathlib.Core.Path.{_≡_};
@@ -16,7 +16,7 @@ fn check_start(words: &Words, bytes: &Bytes, t: u64, kind: u64) -> u64
     if 16 <= t {
         return 2;
     }
-    let own = stacks::kind_at(words, t as usize);
+    let own = tables::kind_at(words, t as usize);
     if own != 0 {
         return 3;
     }
@@ -36,7 +36,7 @@ pub fn start_on(words: &mut Words, bytes: &Bytes, t: u64, kind: u64) -> Answer
 {
     let status = check_start(words, bytes, t, kind);
     if status == 0 {
-        stacks::put_kind(words, t as usize, kind);
+        tables::put_kind(words, t as usize, kind);
     }
     Answer { status, value: 0 }
 }
@@ -72,7 +72,7 @@ fn check_end(words: &Words, bytes: &Bytes, t: u64) -> u64
     if refusal != 0 {
         return refusal;
     }
-    if 0 < stacks::len_at(words, t as usize) {
+    if 0 < tables::len_at(words, t as usize) {
         return 11;
     }
     0
@@ -85,11 +85,12 @@ pub fn end_on(words: &mut Words, bytes: &Bytes, t: u64) -> Answer
 {
     let refusal = check_end(words, bytes, t);
     if refusal == 0 {
-        stacks::put_kind(words, t as usize, 0);
+        tables::put_kind(words, t as usize, 0);
     }
+    let value = 0; // none is named
     Answer {
         status: refusal,
-        value: 0,
+        value,
     }
 }
 

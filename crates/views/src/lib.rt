@@ -1,6 +1,6 @@
 // An object's data shown as a part of the permanent or scratch store itself, and the call beside it
 // that yields the status.
-use layout::stack::Answer;
+use layout::answer::Answer;
 use objects::Checked;
 use tables::Bytes;
 use tables::Words;

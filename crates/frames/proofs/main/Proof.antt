@@ -1,6 +1,6 @@
 -- `main` meets what `answer_all` asks: set-up on buffers of zeros gives the first world, and the buffers are long enough.
 use native.Mathlib.Omega.{arith}
-use Rattle.reader.specs.HeldLaws.{first-stands}
+use Rattle.reader.specs.HeldLaws.{first-represents}
 use borrow.Author.Needs.{needs}
 use Rattle.frames.proofs.main.Statement.{statement}
 use Rattle.frames.proofs.main.Tie as tie
@@ -51,7 +51,7 @@ answer-all-requires c κs =
     let o = c .before .before .before .before .before .before .before .output-buffer .ensures in
     let m = s .before .before .before .before in (
       (s .set-up .ensures .ready, i, omega (arith, i, o)),
-      first-stands _ _ _ _ _ _ (m .before .before .permanent-store .ensures) (m .before .scratch-store .ensures) (m .start-map .ensures) (s .set-up .ensures),
+      first-represents _ _ _ _ _ _ (m .before .before .permanent-store .ensures) (m .before .scratch-store .ensures) (m .start-map .ensures) (s .set-up .ensures),
     )
 
 returns : tie.Need-returns

@@ -36,12 +36,12 @@ use denote.Triple.Table.{entered, cited}
 use denote.Triple.Walked.{says, Stays, stay-ref, walkOf, AllGo, goes-ref, Walks, ends-at, walked, walk-meets}
 use denote.Triple.Clauses.{ensured, lasts}
 use Rattle.layout.specs.declared.stack.ScopeStack.{ScopeStack}
-use Rattle.layout.specs.declared.stack.Answer.{Answer}
+use Rattle.layout.specs.declared.answer.Answer.{Answer}
 use Rattle.layout.specs.Stack.{popAnswer, poppedStack}
 use Rattle.layout.proofs.stack.ScopeStack as T
 use Rattle.layout.proofs.stack.ScopeStack.Laws as T′
-use Rattle.layout.proofs.stack.Answer as R
-use Rattle.layout.proofs.stack.Answer.Laws as R′
+use Rattle.layout.proofs.answer.Answer as R
+use Rattle.layout.proofs.answer.Answer.Laws as R′
 use Rattle.layout.proofs.stack.pop_answer as asked
 use Rattle.layout.proofs.stack.pop_answer.Symbol as asked-def
 use Rattle.layout.proofs.stack.pop_answer.Symbol.{name as #layout·stack·pop-answer}

@@ -39,12 +39,12 @@ use denote.Triple.Walked.{says, Stays, stay-ref, stay-none, walkOf, AllGo, goes-
 use denote.Triple.Clauses.{ensured, lasts}
 use denote.Exit.{yes}
 use Rattle.layout.specs.declared.stack.ScopeStack.{ScopeStack}
-use Rattle.layout.specs.declared.stack.Answer.{Answer}
+use Rattle.layout.specs.declared.answer.Answer.{Answer}
 use Rattle.layout.specs.Stack.{pushAnswer, pushedStack}
 use Rattle.layout.proofs.stack.ScopeStack as T
 use Rattle.layout.proofs.stack.ScopeStack.Laws as T′
-use Rattle.layout.proofs.stack.Answer as R
-use Rattle.layout.proofs.stack.Answer.Laws as R′
+use Rattle.layout.proofs.answer.Answer as R
+use Rattle.layout.proofs.answer.Answer.Laws as R′
 use Rattle.layout.proofs.stack.push_answer as asked
 use Rattle.layout.proofs.stack.push_answer.Symbol as asked-def
 use Rattle.layout.proofs.stack.push_answer.Symbol.{name as #layout·stack·push-answer}

@@ -1,52 +1,67 @@
 -- `parse_line` meets its contract: one law for each way that its tests end.
-use mathlib.Core.Path.{sym, _∙_}
+use mathlib.Core.Path.{sym, ap, _∙_}
 use borrow.Author.Tests.{not-true, not-false}
-use Rattle.lines.specs.Lines.{bad-line, frame-line}
-use Rattle.lines.specs.FrameLaws.{other-length, kept-no-digits, kept-no-op, kept-not-zero, kept-frame}
+use Rattle.model.specs.Ops.{opOf}
+use Rattle.lines.specs.FrameLaws.{other-length, no-digits, no-op, not-zero, a-frame}
 use borrow.Author.Needs.{needs}
 use Rattle.lines.proofs.frame.parse_line.Statement.{statement}
 use Rattle.lines.proofs.frame.parse_line.Tie as tie
 
 returns : tie.Need-returns
-returns c = λ l h. bad-line l (other-length h (c .if1 .taken))
+returns c = λ l h. other-length h (c .if1 .taken)
 
 all-digits-requires : tie.Need-all-digits-requires
 all-digits-requires c κs = search needs
 
 returns-2 : tie.Need-returns-2
-returns-2 c = λ l h.
-    bad-line l (kept-no-digits h (c .before .before .if1 .left) (sym (c .before .all-digits .ensures) ∙ not-true _ (c .if2 .taken)))
+returns-2 c = λ l h. no-digits h (c .before .before .if1 .left) (sym (c .before .all-digits .ensures) ∙ not-true _ (c .if2 .taken))
 
-read-fields-requires : tie.Need-read-fields-requires
-read-fields-requires c κs = (c .before .before .before .pre, sym (c .before .all-digits .ensures) ∙ not-false _ (c .if2 .left))
+field-requires : tie.Need-field-requires
+field-requires c κs =
+    let d = sym (c .before .all-digits .ensures) ∙ not-false _ (c .if2 .left) in
+    record { sized = c .before .before .before .pre; within = search needs; short = search needs; digits = d }
 
-is-op-requires : tie.Need-is-op-requires
-is-op-requires c κs = search needs
+op-of-requires : tie.Need-op-of-requires
+op-of-requires c κs = search needs
+
+enum-known-op : tie.Need-enum-known-op
+enum-known-op c = search needs
+
+enum-told : tie.Need-enum-told
+enum-told c = search needs
 
 returns-3 : tie.Need-returns-3
 returns-3 c = λ l h.
-    let b = c .before .before .before in
-    bad-line l (kept-no-op h (b .before .before .if1 .left) _ (c .before .before .read-fields .ensures) (sym (b .before .all-digits .ensures) ∙ not-false _ (b .if2 .left))
-    (sym (c .before .is-op .ensures) ∙ not-true _ (c .if3 .taken)))
+    let o = c .before .before in
+    let b = o .before .before in
+    no-op h (b .before .before .if1 .left) (sym (b .before .all-digits .ensures) ∙ not-false _ (b .if2 .left)) _
+    (o .op-of .ensures ∙ ap opOf (o .before .field .ensures)) (c .enum-told .given .1)
+
+read-fields-requires : tie.Need-read-fields-requires
+read-fields-requires c κs =
+    let b = c .before .before .before .before .before in
+    (b .before .before .before .pre, sym (b .before .all-digits .ensures) ∙ not-false _ (b .if2 .left))
 
 unused-zero-requires : tie.Need-unused-zero-requires
 unused-zero-requires c κs = search needs
 
 returns-4 : tie.Need-returns-4
 returns-4 c = λ l h.
-    let o = c .before .before in
-    let b = o .before .before .before in
-    bad-line l (kept-not-zero h (b .before .before .if1 .left) _ (o .before .before .read-fields .ensures) (sym (b .before .all-digits .ensures) ∙ not-false _ (b .if2 .left))
-    (sym (o .before .is-op .ensures) ∙ not-false _ (o .if3 .left))
-    (sym (c .before .unused-zero .ensures) ∙ not-true _ (c .if4 .taken)))
+    let k = c .before .before .before .before in
+    let o = k .before .before in
+    let b = o .before .before in
+    not-zero h (b .before .before .if1 .left) (sym (b .before .all-digits .ensures) ∙ not-false _ (b .if2 .left)) _
+    (o .op-of .ensures ∙ ap opOf (o .before .field .ensures)) _ _ _ _ (k .op .given .1) _ (c .before .before .read-fields .ensures)
+    (sym (c .before .unused-zero .ensures) ∙ not-true _ (c .if3 .taken))
 
 returns-5 : tie.Need-returns-5
 returns-5 c = λ l h.
-    let o = c .before .before in
-    let b = o .before .before .before in
-    frame-line l _ (kept-frame h (b .before .before .if1 .left) _ (o .before .before .read-fields .ensures) (sym (b .before .all-digits .ensures) ∙ not-false _ (b .if2 .left))
-    (sym (o .before .is-op .ensures) ∙ not-false _ (o .if3 .left))
-    (sym (c .before .unused-zero .ensures) ∙ not-false _ (c .if4 .left)))
+    let k = c .before .before .before .before in
+    let o = k .before .before in
+    let b = o .before .before in
+    a-frame h (b .before .before .if1 .left) (sym (b .before .all-digits .ensures) ∙ not-false _ (b .if2 .left)) _
+    (o .op-of .ensures ∙ ap opOf (o .before .field .ensures)) _ _ _ _ (k .op .given .1) _ (c .before .before .read-fields .ensures)
+    (sym (c .before .unused-zero .ensures) ∙ not-false _ (c .if3 .left))
 
 pub parse-line-spec : {M : Type 1} → statement M
 parse-line-spec =
@@ -55,9 +70,12 @@ parse-line-spec =
     returns
     all-digits-requires
     returns-2
-    read-fields-requires
-    is-op-requires
+    field-requires
+    op-of-requires
+    enum-known-op
+    enum-told
     returns-3
+    read-fields-requires
     unused-zero-requires
     returns-4
     returns-5)

@@ -17,21 +17,11 @@ field-requires-3 c κs = search needs
 field-requires-4 : tie.Need-field-requires-4
 field-requires-4 c κs = search needs
 
-field-requires-5 : tie.Need-field-requires-5
-field-requires-5 c κs = search needs
-
 returns : tie.Need-returns
 unfolding fieldsOf
 returns c =
-    rw (c .before .before .before .before .field .ensures, c .before .before .before .field2 .ensures, c .before .before .field3 .ensures, c .before .field4 .ensures, c .field5 .ensures) refl
+    rw (c .before .before .before .field .ensures, c .before .before .field2 .ensures, c .before .field3 .ensures, c .field4 .ensures) refl
 
 pub read-fields-spec : {M : Type 1} → statement M
 read-fields-spec =
-    tie.close
-    (tie.spec
-    field-requires
-    field-requires-2
-    field-requires-3
-    field-requires-4
-    field-requires-5
-    returns)
+    tie.close (tie.spec field-requires field-requires-2 field-requires-3 field-requires-4 returns)

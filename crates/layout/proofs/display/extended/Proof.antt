@@ -1,0 +1,66 @@
+-- `extended` meets its contract. The invariant: the one entry more is there once its place is past.
+use mathlib.Core.Path.{_≡_, refl, ap, _∙_}
+use Prim.Native.Nat.{ℕ, _-_, _≤_, _<_}
+use native.Mathlib.Numerals.{add-one}
+use native.Mathlib.Omega.{arith}
+use lib.ListN.{length}
+use borrow.Author.Needs.{needs}
+use Rattle.layout.specs.Display.{extendedRow}
+use Rattle.layout.specs.DisplayLaws.{soFar, so-far-none, so-far-more, so-far-all}
+use Rattle.layout.proofs.display.extended.Statement.{statement}
+use Rattle.layout.proofs.display.extended.Tie as tie
+
+abbrev Inv-loop : tie.InvT-loop
+Inv-loop area last next₀ at₀ place₀ next at place = (at ≤ 32) × (place ≡ at) × (next ≡ soFar next₀ last area at) × (length next ≡ 32)
+
+abbrev μ-loop : tie.MeasureT-loop
+μ-loop area last next₀ at₀ place₀ next at place = 32 - at
+
+last-place-requires : tie.Need-last-place-requires Inv-loop μ-loop
+last-place-requires c κs = search needs
+
+loop-holds : tie.Need-loop-holds Inv-loop μ-loop
+loop-holds c =
+    let a = c .before .args in
+    (omega arith, refl, so-far-none (a .row) (c .last-place .result) (a .area), search needs)
+
+array-read-kept : tie.Need-array-read-kept Inv-loop μ-loop
+array-read-kept c = search needs
+
+entry-requires : tie.Need-entry-requires Inv-loop μ-loop
+entry-requires c κs = search needs
+
+array-write-next : tie.Need-array-write-next Inv-loop μ-loop
+array-write-next c = search needs
+
+add-at : tie.Need-add-at Inv-loop μ-loop
+add-at c = search needs
+
+add-place : tie.Need-add-place Inv-loop μ-loop
+add-place c = search needs
+
+loop-less : tie.Need-loop-less Inv-loop μ-loop
+loop-less c = search needs
+
+loop-again : tie.Need-loop-again Inv-loop μ-loop
+loop-again c =
+    let l = c .before .before .loop in
+    let b = c .before .before .before in (
+      search needs,
+      omega (arith, l .inv .1),
+      rw (add-one, c .entry .ensures, l .inv .1, l .inv .2) (so-far-more (b .before .args .row) (b .last-place .result) (b .before .args .area) (l .at)),
+      search needs,
+    )
+
+returns : tie.Need-returns Inv-loop μ-loop
+returns c =
+    let l = c .before .loop in
+    let b = c .before .before in
+    let a = b .before .args in
+    l .inv .2 ∙ so-far-all (a .row) (b .last-place .result) (a .area) (l .at) (omega (arith, b .last-place .ensures))
+    ∙ ap (λ (n : ℕ). extendedRow (a .row) n (a .area)) (b .last-place .ensures)
+
+pub extended-spec : {M : Type 1} → statement M
+extended-spec =
+    tie.close
+    (tie.spec Inv-loop μ-loop last-place-requires loop-holds array-read-kept entry-requires array-write-next add-at add-place loop-less loop-again returns)

@@ -1,0 +1,65 @@
+-- `write_digits` meets its contract. The invariant: the lowest n - i digits stand from at + i on, and rest is the number without them.
+use Prim.Native.Nat.{_+_, _≤_}
+use native.Mathlib.Omega.{arith}
+use lib.ListN.{length}
+use borrow.Author.Needs.{needs}
+use Rattle.lines.specs.AnswerLaws.{Lowest, lowest-none, lowest-more, lowest-all, lowest-length}
+use Rattle.lines.proofs.answer.write_digits.Statement.{statement}
+use Rattle.lines.proofs.answer.write_digits.Tie as tie
+
+abbrev Inv-loop : tie.InvT-loop
+Inv-loop output₀ at v n rest₀ i₀ output rest i = (at + n ≤ length output₀) × Lowest output₀ at v n rest i output
+
+abbrev μ-loop : tie.MeasureT-loop
+μ-loop output₀ at v n rest₀ i₀ output rest i = i
+
+loop-holds : tie.Need-loop-holds Inv-loop μ-loop
+loop-holds c = (c .before .pre, lowest-none _ _ _ _)
+
+sub-i : tie.Need-sub-i Inv-loop μ-loop
+sub-i c = search needs
+
+cast-digit-of : tie.Need-cast-digit-of Inv-loop μ-loop
+cast-digit-of c = search needs
+
+digit-of-requires : tie.Need-digit-of-requires Inv-loop μ-loop
+digit-of-requires c κs = search needs
+
+add-output : tie.Need-add-output Inv-loop μ-loop
+add-output c = search needs
+
+slice-write-output : tie.Need-slice-write-output Inv-loop μ-loop
+slice-write-output c =
+    let l = c .before .before .loop in
+    omega (arith, l .inv .1 .within, lowest-length _ _ _ _ _ _ _ (l .inv .1))
+
+loop-less : tie.Need-loop-less Inv-loop μ-loop
+loop-less c = search needs
+
+loop-again : tie.Need-loop-again Inv-loop μ-loop
+loop-again c =
+    let l = c .before .before in
+    (l .loop .inv .0, rw (c .digit-of .ensures) (lowest-more _ _ _ _ _ _ _ (c .before .loop-test .taken) (l .loop .inv .1)))
+
+same-length : tie.Need-same-length Inv-loop μ-loop
+same-length c = lowest-length _ _ _ _ _ _ _ (c .before .loop .inv .1)
+
+returns : tie.Need-returns Inv-loop μ-loop
+returns c = lowest-all _ _ _ _ _ _ _ (c .loop-test .left) (c .before .loop .inv .1)
+
+pub write-digits-spec : {M : Type 1} → statement M
+write-digits-spec =
+    tie.close
+    (tie.spec
+    Inv-loop
+    μ-loop
+    loop-holds
+    sub-i
+    cast-digit-of
+    digit-of-requires
+    add-output
+    slice-write-output
+    loop-less
+    loop-again
+    same-length
+    returns)

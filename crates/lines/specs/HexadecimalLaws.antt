@@ -1,0 +1,124 @@
+-- Laws of digits, and of the number of a field.
+-- Assumes nothing.
+use mathlib.Core.Path.{_≡_, refl, sym, ap, _∙_}
+use mathlib.Core.Bool.{true, false, _&&_}
+use mathlib.Core.List.{List, [], _∷_, _++_}
+use mathlib.Core.Logic.{_⊎_, inl, inr, ⊎-elim}
+use Prim.Native.Nat.{ℕ, zero, suc, _+_, _-_, _*_, _^_, _≤_, _<_}
+use native.Mathlib.Nat.{pow-suc, pow-le-pow-right}
+use native.Mathlib.Numerals.{add-one}
+use native.Mathlib.Omega.{arith}
+use lib.Dec.{leb}
+use borrow.Author.Tests.{le-leb, lt-leb, leb-true}
+use lib.ListN.{length, take, drop, getD, length-drop}
+use lib.Seq.{take-suc, drop-cons, getD-drop}
+use Rattle.layout.specs.Choice.{and-true, or-true}
+use Rattle.lines.specs.Hexadecimal.{isDigit, digitValue, allDigits, numberFrom, fieldOf, Digits}
+
+-- ---- digits
+
+pub digit : (b : ℕ) → 48 ≤ b → b ≤ 57 → true ≡ isDigit b
+unfolding isDigit
+digit b h k = simp (le-leb 48 b h, le-leb b 57 k)
+
+pub letter : (b : ℕ) → 97 ≤ b → b ≤ 102 → true ≡ isDigit b
+unfolding isDigit
+letter b h k = simp (le-leb 48 b (omega arith), lt-leb b 57 (omega arith), le-leb 97 b h, le-leb b 102 k)
+
+pub below : (b : ℕ) → b < 48 → false ≡ isDigit b
+unfolding isDigit
+below b h = simp (lt-leb 48 b h, lt-leb 97 b (omega arith))
+
+pub between : (b : ℕ) → 57 < b → b < 97 → false ≡ isDigit b
+unfolding isDigit
+between b h k = simp (le-leb 48 b (omega arith), lt-leb b 57 h, lt-leb 97 b k)
+
+pub above : (b : ℕ) → 102 < b → false ≡ isDigit b
+unfolding isDigit
+above b h = simp (le-leb 48 b (omega arith), lt-leb b 57 (omega arith), le-leb 97 b (omega arith), lt-leb b 102 h)
+
+both : (x y a b : ℕ) → leb x y && leb a b ≡ true → (x ≤ y) × (a ≤ b)
+both x y a b e = let s = and-true (leb x y) (leb a b) e in (leb-true x y (s .0), leb-true a b (s .1))
+
+-- a digit is 0 to 9 or a to f
+pub digit-is : (b : ℕ) → isDigit b ≡ true → ((48 ≤ b) × (b ≤ 57)) ⊎ ((97 ≤ b) × (b ≤ 102))
+unfolding isDigit
+digit-is b e =
+    ⊎-elim (λ h. inl (both 48 b b 57 h)) (λ h. inr (both 97 b b 102 h))
+    (or-true (leb 48 b && leb b 57) (leb 97 b && leb b 102) e)
+
+pub low-value : (b : ℕ) → b ≤ 57 → b - 48 ≡ digitValue b
+unfolding digitValue
+low-value b h = simp (le-leb b 57 h)
+
+pub high-value : (b : ℕ) → 57 < b → b - 87 ≡ digitValue b
+unfolding digitValue
+high-value b h = simp (lt-leb b 57 h)
+
+pub value-small : (b : ℕ) → isDigit b ≡ true → digitValue b < 16
+value-small b e =
+    ⊎-elim (λ h. omega (arith, low-value b (h .1), h .0)) (λ h. omega (arith, high-value b (omega (arith, h .0)), h .0, h .1)) (digit-is b e)
+
+-- ---- all digits
+
+pub none-left : (l : List ℕ) (n : ℕ) → length l ≤ n → true ≡ allDigits (drop n l)
+unfolding allDigits
+none-left [] zero h = refl
+none-left [] (suc n) h = refl
+none-left (b ∷ l) zero h = absurd (omega arith)
+none-left (b ∷ l) (suc n) h = none-left l n (omega arith)
+
+one-more : (l : List ℕ) (i : ℕ) → i < length l → allDigits (drop i l) ≡ isDigit (getD l i 0) && allDigits (drop (suc i) l)
+unfolding allDigits
+one-more l i h = rw (drop-cons l i 0 h) refl
+
+-- a byte that is no digit
+pub spoilt : (l : List ℕ) (i : ℕ) → i < length l → allDigits (drop i l) ≡ allDigits l → isDigit (getD l i 0) ≡ false → false ≡ allDigits l
+spoilt l i h e f = sym (sym e ∙ one-more l i h ∙ rw f refl)
+
+-- a byte that is one
+pub passed : (l : List ℕ) (i : ℕ) → i < length l → allDigits (drop i l) ≡ allDigits l → isDigit (getD l i 0) ≡ true → allDigits (drop (i + 1) l) ≡ allDigits l
+passed l i h e f = rw add-one (sym (one-more l i h ∙ rw f refl) ∙ e)
+
+pub digit-at : (l : List ℕ) (i : ℕ) → allDigits l ≡ true → i < length l → isDigit (getD l i 0) ≡ true
+unfolding allDigits
+digit-at [] i e h = absurd (omega arith)
+digit-at (b ∷ l) zero e h = and-true (isDigit b) (allDigits l) e .0
+digit-at (b ∷ l) (suc i) e h = digit-at l i (and-true (isDigit b) (allDigits l) e .1) (omega arith)
+
+-- ---- the number of a field
+
+number-append : (v : ℕ) (l : List ℕ) (b : ℕ) → numberFrom v (l ++ (b ∷ [])) ≡ numberFrom v l * 16 + digitValue b
+unfolding numberFrom
+number-append v [] b = refl
+number-append v (c ∷ l) b = number-append (v * 16 + digitValue c) l b
+
+-- one digit more
+pub field-more : (l : List ℕ) (at i : ℕ) → at + i < length l → fieldOf l at (suc i) ≡ fieldOf l at i * 16 + digitValue (getD l (at + i) 0)
+unfolding fieldOf
+field-more l at i h =
+    let inside : i < length (drop at l) = omega (arith, length-drop at l) in
+    ap (numberFrom 0) (take-suc (drop at l) i 0 inside)
+    ∙ number-append 0 (take i (drop at l)) (getD (drop at l) i 0)
+    ∙ ap (λ (b : ℕ). numberFrom 0 (take i (drop at l)) * 16 + digitValue b) (getD-drop at l i 0)
+
+pub field-none : (l : List ℕ) (at : ℕ) → 0 ≡ fieldOf l at 0
+unfolding fieldOf numberFrom
+field-none l at = refl
+
+module _ {l : List ℕ} {at n : ℕ} (d : Digits l at n) where
+  pub field-digit : (i : ℕ) → i < n → isDigit (getD l (at + i) 0) ≡ true
+  field-digit i h = digit-at l (at + i) (d .digits) (omega arith)
+
+  -- below 16^i
+  field-below : (i : ℕ) → i ≤ n → fieldOf l at i < 16 ^ i
+  field-below zero h = omega (arith, field-none l at)
+  field-below (suc i) h =
+      let ih = field-below i (omega arith) in
+      omega (arith, field-more l at i (omega arith), value-small (getD l (at + i) 0) (field-digit i (omega arith)), pow-suc 16 i)
+
+  -- a digit more still fits a word
+  pub field-fits : (i : ℕ) → i < n → fieldOf l at i * 16 + digitValue (getD l (at + i) 0) < 2 ^ 64
+  field-fits i h =
+      let m : 16 ^ suc i ≤ 16 ^ 16 = pow-le-pow-right {n = 16} (omega arith) {i = suc i} {j = 16} (omega arith) in
+      omega (arith, field-more l at i (omega arith), field-below (suc i) (omega arith))

@@ -1,0 +1,66 @@
+-- `row_holds` meets its contract: the part of the bytes has the row's elements.
+use denote.Ref.{now}
+use mathlib.Core.List.{List}
+use mathlib.Core.Path.{_≡_, _∙_}
+use Prim.Native.Nat.{ℕ, _+_, _-_, _<_, _≤_}
+use native.Mathlib.Omega.{arith}
+use borrow.Author.Needs.{needs}
+use borrow.Author.Tests.{ltb-true}
+use lib.Dec.{ltb}
+use lib.ListN.{take, drop}
+use lib.Seq.{getD-take, getD-drop}
+use Rattle.layout.specs.Choice.{cases}
+use Rattle.layout.specs.Display.{rowHolds}
+use Rattle.tables.specs.Decode.{rowBytes, rowIndex, displayRows, displayRow}
+use Rattle.tables.specs.Laws.{byte-read}
+use Rattle.tables.proofs.displays.row_holds.Statement.{statement}
+use Rattle.tables.proofs.displays.row_holds.Tie as tie
+
+-- a look at a depth sees one element of the row
+part-holds : (b : List ℕ) (a d x : ℕ) → d ≤ rowBytes → rowHolds (take rowBytes (drop (rowIndex (displayRows + a)) b)) d x ≡ rowHolds (displayRow b a) d x
+unfolding rowHolds displayRow
+part-holds b a d x h =
+    cases (ltb 0 d)
+    (λ e. let k : d - 1 < rowBytes = omega (arith, ltb-true 0 d e) in
+    rw (e, getD-take rowBytes (drop (rowIndex (displayRows + a)) b) (d - 1) 0 k, getD-drop (rowIndex (displayRows + a)) b (d - 1) 0, byte-read b (displayRows + a) (d - 1) k))
+    (λ e. rw e)
+
+add-at : tie.Need-add-at
+add-at c = search needs
+
+mul-at : tie.Need-mul-at
+mul-at c = search needs
+
+add-holds : tie.Need-add-holds
+add-holds c = search needs
+
+sub-holds : tie.Need-sub-holds
+sub-holds c = search needs
+
+part-holds-start : tie.Need-part-holds-start
+part-holds-start c = search needs
+
+part-holds-end : tie.Need-part-holds-end
+part-holds-end c = search needs
+
+holds-requires : tie.Need-holds-requires
+holds-requires c κs = search needs
+
+returns : tie.Need-returns
+returns c =
+    let a = c .before .before .before .args in
+    let n : rowIndex (displayRows + a .b) + rowBytes - rowIndex (displayRows + a .b) ≡ rowBytes = omega arith in
+    (rw n at (c .holds .ensures)) ∙ part-holds (now (a .bytes)) (a .b) (a .depth .0) (a .area) (search needs)
+
+pub row-holds-spec : {M : Type 1} → statement M
+row-holds-spec =
+    tie.close
+    (tie.spec
+    add-at
+    mul-at
+    add-holds
+    sub-holds
+    part-holds-start
+    part-holds-end
+    holds-requires
+    returns)
