@@ -91,6 +91,7 @@
 #![warn(missing_docs)]
 
 mod calls;
+mod exports;
 mod names;
 mod refusal;
 mod stack;

@@ -3,7 +3,7 @@
 use std::error::Error;
 use std::fmt;
 
-use crate::sys::Answer;
+use crate::exports::Answer;
 
 /// A refused call: it changed nothing. `refusal as u64` is its number.
 #[derive(Clone, Copy, Debug, PartialEq, Eq, Hash)]

@@ -2,12 +2,13 @@
 
 use std::fmt;
 
+use crate::exports;
 use crate::names::Area;
 use crate::refusal::{value, Refusal};
 use crate::sys;
 
 /// A stack of at most 32 areas, apart from every state. It begins empty; push and pop change it.
-pub struct ScopeStack(sys::StackRecord);
+pub struct ScopeStack(exports::ScopeStack);
 
 impl ScopeStack {
     /// An empty stack.

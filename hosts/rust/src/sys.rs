@@ -5,6 +5,8 @@
 //! it alone; slices are valid for their lengths, and Rust's borrows keep them from overlapping. That
 //! two calls that only read are not made at once is kept above: a core is not `Sync`.
 
+use crate::exports::*;
+
 /// The three buffers, borrowed from the host.
 pub struct Memory<'m> {
     pub permanent: &'m mut [u64],
@@ -20,88 +22,6 @@ pub struct State(Box<Tables>);
 struct Tables {
     words: [u64; 548],
     bytes: [u8; 3072],
-}
-
-/// What set-up gives: its status and the tables.
-#[repr(C)]
-struct NewState {
-    status: u64,
-    words: [u64; 548],
-    bytes: [u8; 3072],
-}
-
-/// Status 0 and a value, or a refusal and 0.
-#[repr(C)]
-pub struct Answer {
-    pub status: u64,
-    pub value: u64,
-}
-
-/// A part of the permanent (0) or the scratch store (1).
-#[repr(C)]
-pub struct View {
-    pub status: u64,
-    pub store: u64,
-    pub from: u64,
-    pub len: u64,
-}
-
-/// One thread's stack, for the host's scheduler.
-#[repr(C)]
-pub struct StackRecord {
-    pub len: u64,
-    pub entries: [u8; 32],
-}
-
-/// Declares exported functions: the state's words and bytes and the three buffers, each as `const`
-/// or `mut`, then numbers.
-macro_rules! exported {
-    ($($name:ident($words:tt $bytes:tt, $permanent:tt $scratch:tt $map:tt, $($number:ident),*) -> $answer:ty;)*) => {
-        extern "C" {
-            $(fn $name(
-                words: *$words u64,
-                bytes: *$bytes u8,
-                permanent: *$permanent u64,
-                permanent_len: usize,
-                scratch: *$scratch u64,
-                scratch_len: usize,
-                map: *$map u64,
-                map_len: usize,
-                $($number: u64),*
-            ) -> $answer;)*
-        }
-    };
-}
-
-exported! {
-    scopes_start(mut const, const const const, thread, kind) -> Answer;
-    scopes_end(mut const, const const const, thread) -> Answer;
-    scopes_make(mut const, const const const, thread, area, size) -> Answer;
-    scopes_enter(mut mut, const const const, thread, area) -> Answer;
-    scopes_exit(mut const, const const const, thread) -> Answer;
-    scopes_allocate(mut const, mut mut mut, thread, slots, data_words) -> Answer;
-    scopes_store(const const, mut mut const, thread, object, slot, target) -> Answer;
-    scopes_load(const const, const const const, thread, object, slot) -> Answer;
-    scopes_write(const const, mut mut const, thread, object, index, word) -> Answer;
-    scopes_read(const const, const const const, thread, object, index) -> Answer;
-    scopes_view_status(const const, const const const, thread, object) -> Answer;
-    scopes_view_place(const const, const const const, thread, object) -> View;
-}
-
-extern "C" {
-    fn scopes_set_up(
-        permanent: *const u64,
-        permanent_len: usize,
-        scratch: *const u64,
-        scratch_len: usize,
-        map: *const u64,
-        map_len: usize,
-        heap: u64,
-        immortal: u64,
-    ) -> NewState;
-    fn scopes_stack_empty() -> StackRecord;
-    fn scopes_stack_push(stack: *mut StackRecord, area: u64) -> Answer;
-    fn scopes_stack_pop(stack: *mut StackRecord) -> Answer;
 }
 
 /// Safe functions over exported ones: the state and the memory are lent as the declaration says.
@@ -173,17 +93,17 @@ pub fn set_up(memory: &Memory, heap: u64, immortal: u64) -> (u64, State) {
     (status, State(Box::new(Tables { words, bytes })))
 }
 
-pub fn stack_empty() -> StackRecord {
+pub fn stack_empty() -> ScopeStack {
     // SAFETY: the function asks for nothing.
     unsafe { scopes_stack_empty() }
 }
 
-pub fn stack_push(stack: &mut StackRecord, area: u64) -> Answer {
+pub fn stack_push(stack: &mut ScopeStack, area: u64) -> Answer {
     // SAFETY: the record is borrowed for writing; nothing is asked of its contents.
     unsafe { scopes_stack_push(stack, area) }
 }
 
-pub fn stack_pop(stack: &mut StackRecord) -> Answer {
+pub fn stack_pop(stack: &mut ScopeStack) -> Answer {
     // SAFETY: as for push.
     unsafe { scopes_stack_pop(stack) }
 }

@@ -3,6 +3,9 @@
 
 pub mod calls;
 pub mod chooser;
+/// The wrapper's declarations. The tables are open here, since a test compares them and makes states
+/// that no host may.
+#[path = "../../../hosts/rust/src/exports.rs"]
 pub mod exports;
 pub mod list;
 pub mod pair;

@@ -1,7 +1,6 @@
 //! The exported functions as they are declared in include/scopes.h, and nothing over them.
 
-/// What set-up gives. The tables are open here, since a test compares them and makes states that no
-/// host may.
+/// What set-up gives: its status and the tables.
 #[repr(C)]
 #[derive(Clone, PartialEq, Eq)]
 pub struct NewState {
@@ -10,6 +9,7 @@ pub struct NewState {
     pub bytes: [u8; 3072],
 }
 
+/// Status 0 and a value, or a refusal and 0.
 #[repr(C)]
 #[derive(Clone, Copy, Debug, PartialEq, Eq)]
 pub struct Answer {
@@ -17,6 +17,7 @@ pub struct Answer {
     pub value: u64,
 }
 
+/// A part of the permanent (0) or the scratch store (1).
 #[repr(C)]
 #[derive(Clone, Copy, Debug, PartialEq, Eq)]
 pub struct View {
@@ -26,6 +27,7 @@ pub struct View {
     pub len: u64,
 }
 
+/// One thread's stack, for the host's scheduler.
 #[repr(C)]
 #[derive(Clone, Copy, Debug, PartialEq, Eq)]
 pub struct ScopeStack {
