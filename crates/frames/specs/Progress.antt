@@ -8,7 +8,7 @@ use lib.ListN.{length, take}
 use Rattle.reader.specs.Output.{firstWorld}
 use Rattle.reader.specs.Feeding.{joined}
 use Rattle.reader.specs.Held.{Core, Represents, held, Finishes}
-use Rattle.reader.specs.Program.{Fed}
+use Rattle.reader.specs.Program.{FedChunks}
 use Rattle.frames.specs.declared.Ended.{Ended}
 
 -- ---- steps: a call that moves n bytes takes n + 1 of them, so that what is left tells what was read and written
@@ -58,7 +58,7 @@ pub data Last (c : List ℕ) : List (List ℕ) → Type 0 where
 pub record Progress (k₀ : Core) (line₀ : List ℕ) (k : Core) (line : List ℕ) (len : ℕ) (c : List ℕ) (steps : ℕ) : Type 0 where
   pub chunks : List (List ℕ)
   pub written : List ℕ
-  pub fed : Fed k₀ line₀ 0 chunks written k line len
+  pub fed : FedChunks k₀ line₀ 0 chunks written k line len
   pub last : Last c chunks
   pub steps-are : Spent chunks written steps
 

@@ -12,7 +12,7 @@ use lib.Seq.{length-take-le}
 use Rattle.reader.specs.Output.{firstWorld}
 use Rattle.reader.specs.Feeding.{joined}
 use Rattle.reader.specs.Held.{Core, Represents, held, Feeds, Finishes}
-use Rattle.reader.specs.Program.{Fed, none, more}
+use Rattle.reader.specs.Program.{FedChunks, none, more}
 use Rattle.frames.specs.declared.Ended.{Ended}
 use Rattle.frames.specs.Progress.{allSteps, reserve, Read, read, unread, Wrote, wrote, unwritten, Spent, spent, failed, Stopped, at-end, too-few, Continues, Last, no-chunk, last-chunk, Progress, Ran}
 
@@ -60,10 +60,10 @@ spent-more cs w c t a b s h (spent p) r (unwritten e) = failed e
 spent-more cs w c t a b s h (failed p) r e = absurd (omega (arith, h, p))
 
 fed-more : {k k₁ k₂ : Core} {line line₁ line₂ : List ℕ} {len len₁ len₂ : ℕ} {chunks : List (List ℕ)} {written chunk out out₁ : List ℕ} {n : ℕ}
-    → Fed k line len chunks written k₁ line₁ len₁
+    → FedChunks k line len chunks written k₁ line₁ len₁
     → 19 * length chunk ≤ length out
     → Feeds (held k₁ line₁ len₁ out 0) (held k₂ line₂ len₂ out₁ n) chunk
-    → Fed k line len (chunks ++ (chunk ∷ [])) (written ++ take n out₁) k₂ line₂ len₂
+    → FedChunks k line len (chunks ++ (chunk ∷ [])) (written ++ take n out₁) k₂ line₂ len₂
 fed-more {out₁ = out₁} {n = n} none r f = rw (sym (append-nil (take n out₁))) (more r f none)
 fed-more {out₁ = out₁} {n = n} (more {out₁ = o} {n = m} {written = w} r′ f′ d) r f =
     rw (append-assoc (take m o) w (take n out₁)) (more r′ f′ (fed-more d r f))

@@ -90,8 +90,8 @@ fn answer_chunk(
 ) -> Fed
     requires { ⌜ (Ready (now words) (now bytes)) × (length (now line) ≡ 40) × (19 * length (now input) ≤ length (now output)) ⌝ }
     requires { ⌜ (Counts n (now input)) × (19 * n < now steps) ⌝ }
-    ensures { λ r. ⌜ BytesFed words bytes permanent scratch map line len output 0 (take n (now (input .entry))) r ⌝ }
-    ensures { λ r. ⌜ Wrote (now (steps .entry)) (now (steps .exit)) (r .written) ⌝ }
+    ensures fed { λ r. ⌜ BytesFed words bytes permanent scratch map line len output 0 (take n (now (input .entry))) r ⌝ }
+    ensures wrote { λ r. ⌜ Wrote (now (steps .entry)) (now (steps .exit)) (r .written) ⌝ }
 {
     let fed = reader::feed::feed(
         words,
@@ -121,8 +121,8 @@ fn answer_rest(
     steps: &mut usize,
 ) -> usize
     requires { ⌜ (Ready (now words) (now bytes)) × (length (now line) ≡ 40) × (19 ≤ length (now output)) × (19 < now steps) ⌝ }
-    ensures { λ r. ⌜ InputEnded words bytes permanent scratch map line len output r ⌝ }
-    ensures { λ r. ⌜ Wrote (now (steps .entry)) (now (steps .exit)) r ⌝ }
+    ensures ended { λ r. ⌜ InputEnded words bytes permanent scratch map line len output r ⌝ }
+    ensures wrote { λ r. ⌜ Wrote (now (steps .entry)) (now (steps .exit)) r ⌝ }
 {
     let written = reader::feed::finish(words, bytes, permanent, scratch, map, line, len, output);
     write_answers(output, written, steps);

@@ -1,7 +1,7 @@
 -- Handles and headers: packing and unpacking undo each other.
 -- Assumes nothing.
 use mathlib.Core.Path.{_≡_}
-use Prim.Native.Nat.{ℕ, _<_, _^_}
+use Prim.Native.Nat.{ℕ, _<_}
 use native.Mathlib.Omega.{arith}
 use Rattle.layout.specs.Handle.{handleOf, offsetOf, areaOf, generationOf}
 use Rattle.layout.specs.Header.{headerOf, slotsOf, dataOf}
@@ -33,14 +33,6 @@ pub area-lt : (h : ℕ) → areaOf h < 64
 unfolding areaOf
 area-lt h = omega arith
 
-pub generation-lt : (h : ℕ) → h < 2 ^ 64 → generationOf h < 2 ^ 44
-unfolding generationOf
-generation-lt h k = omega arith
-
-pub handle-lt : (o a g : ℕ) → o < 16384 → a < 64 → g < 2 ^ 44 → handleOf o a g < 2 ^ 64
-unfolding handleOf
-handle-lt o a g ho ha hg = omega arith
-
 -- a handle of generation 1 or later is not null
 pub not-null : (o a g : ℕ) → 0 < g → 0 < handleOf o a g
 unfolding handleOf
@@ -63,10 +55,6 @@ slots-lt h = omega arith
 pub data-lt : (h : ℕ) → dataOf h < 16384
 unfolding dataOf
 data-lt h = omega arith
-
-pub header-lt : (s d : ℕ) → s < 16384 → d < 16384 → headerOf s d < 2 ^ 28
-unfolding headerOf
-header-lt s d hs hd = omega arith
 
 -- ---- samples 1 and 2 of document 01
 

@@ -22,22 +22,14 @@ fn entry(is_last: bool, area: u8, kept: u8) -> u8
     kept
 }
 
-// The place of the one entry more, as a byte. The mask tells the compiler that bytes are compared below,
-// and not depths.
-fn last_place(depth: Depth) -> u8
-    requires { ⌜ depth .0 < 32 ⌝ }
-    ensures { λ r. ⌜ r ≡ depth .0 ⌝ }
-{
-    (depth.0 & 255) as u8
-}
-
 // The parent's row, copied, with one entry more. Every entry is chosen by its place, so that the row
-// stays in registers: a row in memory with one byte just stored would stall when it is read back.
+// stays in registers: a row in memory with one byte just stored would stall when it is read back. The
+// mask tells the compiler that bytes are compared, and not depths.
 pub fn extended(row: Row, depth: Depth, area: u8) -> Row
     requires { ⌜ depth .0 < 32 ⌝ }
     ensures { λ r. ⌜ r ≡ extendedRow row (depth .0) area ⌝ }
 {
-    let last = last_place(depth);
+    let last = (depth.0 & 255) as u8;
     let mut next = row;
     let mut at = 0;
     let mut place = 0u8;

@@ -87,14 +87,8 @@ pub fn pop_answer(s: ScopeStack) -> Answer
     let at = above - 1;
     Answer {
         status: 0,
-        value: wide(s.entries[at]),
+        value: s.entries[at] as u64,
     }
-}
-
-fn wide(x: u8) -> u64
-    ensures { λ r. ⌜ r ≡ x ⌝ }
-{
-    x as u64
 }
 
 // The stack without its top entry; as it was where there is none.

@@ -11,8 +11,8 @@ pub type Text = [u8; 40];
 // One byte more, which is no line feed. The count stops at 41, so that a longer line costs no memory.
 pub fn add_byte(line: &mut Text, len: usize, b: u8) -> usize
     requires { ⌜ length (now line) ≡ 40 ⌝ }
-    ensures { λ r. ⌜ length (now (line .exit)) ≡ 40 ⌝ }
-    ensures { λ r. ⌜ ((l : List ℕ) → Buffered (now (line .entry)) len l → Buffered (now (line .exit)) r (l ++ (b ∷ []))) ⌝ }
+    ensures sized { λ r. ⌜ length (now (line .exit)) ≡ 40 ⌝ }
+    ensures buffered { λ r. ⌜ ((l : List ℕ) → Buffered (now (line .entry)) len l → Buffered (now (line .exit)) r (l ++ (b ∷ []))) ⌝ }
 {
     if 40 <= len {
         return 41;

@@ -15,13 +15,13 @@ use Rattle.reader.specs.Feeding.{Feeding, fed, finished, fedAll, joined,
 use Rattle.reader.specs.Held.{Core, Represents, Held, held, Leaves, Feeds, Finishes}
 
 -- Chunk after chunk: each is fed to what the one before it left, with an output that has room for it and is written as far as it goes.
-pub data Fed : Core → List ℕ → ℕ → List (List ℕ) → List ℕ → Core → List ℕ → ℕ → Type 0 where
-  none : {k : Core} {line : List ℕ} {len : ℕ} → Fed k line len [] [] k line len
+pub data FedChunks : Core → List ℕ → ℕ → List (List ℕ) → List ℕ → Core → List ℕ → ℕ → Type 0 where
+  none : {k : Core} {line : List ℕ} {len : ℕ} → FedChunks k line len [] [] k line len
   more : {k k₁ k₂ : Core} {line line₁ line₂ : List ℕ} {len len₁ len₂ : ℕ} {chunk out out₁ : List ℕ} {n : ℕ} {chunks : List (List ℕ)} {written : List ℕ}
       → 19 * length chunk ≤ length out
       → Feeds (held k line len out 0) (held k₁ line₁ len₁ out₁ n) chunk
-      → Fed k₁ line₁ len₁ chunks written k₂ line₂ len₂
-      → Fed k line len (chunk ∷ chunks) (take n out₁ ++ written) k₂ line₂ len₂
+      → FedChunks k₁ line₁ len₁ chunks written k₂ line₂ len₂
+      → FedChunks k line len (chunk ∷ chunks) (take n out₁ ++ written) k₂ line₂ len₂
 
 -- what is written of an output that was filled from its start
 take-sets : (l o : List ℕ) → length o ≤ length l → take (length o) (sets l 0 o) ≡ o
@@ -38,7 +38,7 @@ pub record After (k : Core) (line : List ℕ) (len : ℕ) (written : List ℕ) (
   pub buffered : Buffered line len (f .line)
 
 pub fed-after : {k k₁ : Core} {line line₁ : List ℕ} {len len₁ : ℕ} {chunks : List (List ℕ)} {written : List ℕ} (w : World) (l : List ℕ)
-    → Fed k line len chunks written k₁ line₁ len₁ → Represents k w → Buffered line len l → After k₁ line₁ len₁ written (fedAll w l chunks)
+    → FedChunks k line len chunks written k₁ line₁ len₁ → Represents k w → Buffered line len l → After k₁ line₁ len₁ written (fedAll w l chunks)
 unfolding fedAll
 fed-after w l none s h = record { written-is = refl; represents = s; buffered = h }
 fed-after w l (more {k = k} {k₁ = k₁} {line = line} {line₁ = line₁} {len = len} {len₁ = len₁} {chunk = chunk} {out = out} {out₁ = out₁} {n = n} r f d) s h =
@@ -57,7 +57,7 @@ fed-after w l (more {k = k} {k₁ = k₁} {line = line} {line₁ = line₁} {len
 pub program : {k k₁ k₂ : Core} {line line₁ : List ℕ} {len : ℕ} {chunks : List (List ℕ)} {written out out₁ : List ℕ} {n : ℕ}
     → Represents k firstWorld
     → length line ≡ 40
-    → Fed k line 0 chunks written k₁ line₁ len
+    → FedChunks k line 0 chunks written k₁ line₁ len
     → 19 ≤ length out
     → Finishes (held k₁ line₁ len out 0) (held k₂ line₁ 0 out₁ n)
     → written ++ take n out₁ ≡ outputOf (joined chunks)

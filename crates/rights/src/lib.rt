@@ -21,8 +21,8 @@ const RIGHTS: [u8; 36] = *b"\
 
 // The place of an area's class in a row: heap, immortal, scope.
 fn class_index(area: u64) -> usize
-    ensures { λ n. ⌜ n ≡ classIndex (classOf area) ⌝ }
-    ensures { λ n. ⌜ n < 3 ⌝ }
+    ensures place { λ n. ⌜ n ≡ classIndex (classOf area) ⌝ }
+    ensures within { λ n. ⌜ n < 3 ⌝ }
 {
     if 2 <= area {
         return 2;
@@ -32,8 +32,8 @@ fn class_index(area: u64) -> usize
 
 // The place of a right among the four of a class.
 fn right_index(right: Right) -> usize
-    ensures { λ n. ⌜ n ≡ rightIndex right ⌝ }
-    ensures { λ n. ⌜ n < 4 ⌝ }
+    ensures place { λ n. ⌜ n ≡ rightIndex right ⌝ }
+    ensures within { λ n. ⌜ n < 4 ⌝ }
 {
     match right {
         Right::Enter => 0,

@@ -24,7 +24,7 @@ use Rattle.lines.specs.LineLaws.{buffered-none}
 use Rattle.reader.specs.Output.{frameCall, answerTo, following, lineAnswer, afterLine, linesOf, answersOf, firstWorld, outputOf}
 use Rattle.reader.specs.Feeding.{fed, finished, fedAll, joined, fed-none, fed-end, fed-other, fed-chunks, lines-end, lines-other}
 use Rattle.reader.specs.Held.{Core, Represents, held, Finishes}
-use Rattle.reader.specs.Program.{Fed, fed-after}
+use Rattle.reader.specs.Program.{FedChunks, fed-after}
 use Rattle.served.specs.Input.{elementsTo, elementsOf, linesFrom, onto, answerBy, leftBy, answersBy}
 
 -- ---- the world after lines is that of their calls
@@ -110,7 +110,7 @@ represents-claims : (k : Core) (w : World) → Represents k w → Reached w → 
 represents-claims k w s r = rw (s .state, s .memory) (reached-claims w r)
 
 module _ {k k₁ : Core} {line line₁ : List ℕ} {len : ℕ} {chunks : List (List ℕ)} {written : List ℕ}
-    (s : Represents k firstWorld) (z : length line ≡ 40) (d : Fed k line 0 chunks written k₁ line₁ len) where
+    (s : Represents k firstWorld) (z : length line ≡ 40) (d : FedChunks k line 0 chunks written k₁ line₁ len) where
   abbrev input : List ℕ
   input = joined chunks
 

@@ -3,6 +3,7 @@ use mathlib.Core.Path.{_≡_, refl, ap, _∙_}
 use Prim.Native.Nat.{ℕ, _-_, _≤_, _<_}
 use native.Mathlib.Numerals.{add-one}
 use native.Mathlib.Omega.{arith}
+use lib.Bits.{bitAnd, and-mask}
 use lib.ListN.{length}
 use borrow.Author.Needs.{needs}
 use Rattle.layout.specs.Display.{extendedRow}
@@ -16,13 +17,17 @@ Inv-loop area last next₀ at₀ place₀ next at place = (at ≤ 32) × (place 
 abbrev μ-loop : tie.MeasureT-loop
 μ-loop area last next₀ at₀ place₀ next at place = 32 - at
 
-last-place-requires : tie.Need-last-place-requires Inv-loop μ-loop
-last-place-requires c κs = search needs
+-- the mask takes nothing off a depth below 32
+masked : (n : ℕ) → n < 32 → bitAnd n 255 ≡ n
+masked n h = and-mask n 8 ∙ omega arith
+
+cast-last : tie.Need-cast-last Inv-loop μ-loop
+cast-last c = rw (masked (c .before .args .depth .0) (c .before .pre)) (search needs)
 
 loop-holds : tie.Need-loop-holds Inv-loop μ-loop
 loop-holds c =
     let a = c .before .args in
-    (omega arith, refl, so-far-none (a .row) (c .last-place .result) (a .area), search needs)
+    (omega arith, refl, so-far-none (a .row) (bitAnd (a .depth .0) 255) (a .area), search needs)
 
 array-read-kept : tie.Need-array-read-kept Inv-loop μ-loop
 array-read-kept c = search needs
@@ -45,22 +50,22 @@ loop-less c = search needs
 loop-again : tie.Need-loop-again Inv-loop μ-loop
 loop-again c =
     let l = c .before .before .loop in
-    let b = c .before .before .before in (
+    let a = c .before .before .before .before .args in (
       search needs,
       omega (arith, l .inv .1),
-      rw (add-one, c .entry .ensures, l .inv .1, l .inv .2) (so-far-more (b .before .args .row) (b .last-place .result) (b .before .args .area) (l .at)),
+      rw (add-one, c .entry .ensures, l .inv .1, l .inv .2) (so-far-more (a .row) (bitAnd (a .depth .0) 255) (a .area) (l .at)),
       search needs,
     )
 
 returns : tie.Need-returns Inv-loop μ-loop
 returns c =
     let l = c .before .loop in
-    let b = c .before .before in
-    let a = b .before .args in
-    l .inv .2 ∙ so-far-all (a .row) (b .last-place .result) (a .area) (l .at) (omega (arith, b .last-place .ensures))
-    ∙ ap (λ (n : ℕ). extendedRow (a .row) n (a .area)) (b .last-place .ensures)
+    let b = c .before .before .before in
+    let a = b .args in
+    let m = masked (a .depth .0) (b .pre) in
+    l .inv .2 ∙ so-far-all (a .row) (bitAnd (a .depth .0) 255) (a .area) (l .at) (omega (arith, m)) ∙ ap (λ (n : ℕ). extendedRow (a .row) n (a .area)) m
 
 pub extended-spec : {M : Type 1} → statement M
 extended-spec =
     tie.close
-    (tie.spec Inv-loop μ-loop last-place-requires loop-holds array-read-kept entry-requires array-write-next add-at add-place loop-less loop-again returns)
+    (tie.spec Inv-loop μ-loop cast-last loop-holds array-read-kept entry-requires array-write-next add-at add-place loop-less loop-again returns)

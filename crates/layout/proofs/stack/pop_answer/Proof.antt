@@ -15,17 +15,17 @@ returns c = simp (← c .before .height .ensures, eq-eqb _ 0 (c .if1 .taken))
 sub-at : tie.Need-sub-at
 sub-at c = search needs
 
-element-copy-out-wide : tie.Need-element-copy-out-wide
-element-copy-out-wide c = search needs
+element-copy-out-t10 : tie.Need-element-copy-out-t10
+element-copy-out-t10 c = search needs
 
-wide-requires : tie.Need-wide-requires
-wide-requires c κs = search needs
+cast-t11 : tie.Need-cast-t11
+cast-t11 c = search needs
 
 returns-2 : tie.Need-returns-2
 unfolding popAnswer
-returns-2 c = simp (c .wide .ensures, ← c .before .before .before .height .ensures, ne-eqb _ 0 (c .before .before .if1 .left))
+returns-2 c = simp (← c .before .before .height .ensures, ne-eqb _ 0 (c .before .if1 .left))
 
 pub pop-answer-spec : {M : Type 1} → statement M
 pop-answer-spec =
     tie.close
-    (tie.spec height-requires returns sub-at element-copy-out-wide wide-requires returns-2)
+    (tie.spec height-requires returns sub-at element-copy-out-t10 cast-t11 returns-2)
