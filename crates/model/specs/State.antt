@@ -53,8 +53,17 @@ threadAt s t = getD (s .threads) t noThread
 
 -- ---- an area with a number replaced
 
+-- where its words start, and how many there are
 abbrev pub withWords : Area → ℕ → ℕ → Area
-withWords x start size = record { start = start; size = size; used = x .used; generation = x .generation; count = x .count; parent = x .parent; depth = x .depth }
+withWords x start size = record {
+  start = start;
+  size = size;
+  used = x .used;
+  generation = x .generation;
+  count = x .count;
+  parent = x .parent;
+  depth = x .depth;
+}
 
 abbrev pub withUsed : Area → ℕ → Area
 withUsed x n = record { start = x .start; size = x .size; used = n; generation = x .generation; count = x .count; parent = x .parent; depth = x .depth }
@@ -65,8 +74,17 @@ withGeneration x n = record { start = x .start; size = x .size; used = x .used; 
 abbrev pub withCount : Area → ℕ → Area
 withCount x n = record { start = x .start; size = x .size; used = x .used; generation = x .generation; count = n; parent = x .parent; depth = x .depth }
 
+-- its parent, and its depth under it
 abbrev pub withParent : Area → ℕ → ℕ → Area
-withParent x parent depth = record { start = x .start; size = x .size; used = x .used; generation = x .generation; count = x .count; parent = parent; depth = depth }
+withParent x parent depth = record {
+  start = x .start;
+  size = x .size;
+  used = x .used;
+  generation = x .generation;
+  count = x .count;
+  parent = parent;
+  depth = depth;
+}
 
 -- ---- a thread with a part replaced
 
