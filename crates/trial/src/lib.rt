@@ -2,7 +2,7 @@
 // the theorem over every list speaks of. So the theorem's hypotheses are met by real calls.
 use setup::SetUp;
 ghost use mathlib.Core.Path.{_≡_};
-ghost use Rattle.tables.specs.Contract.{memoryOf};
+ghost use Rattle.tables.specs.Contract.{returned};
 ghost use Rattle.trial.specs.Trial.{Tried};
 
 // Set-up; then a real-time thread starts, makes an object of one slot and two data words, and asks
@@ -15,7 +15,7 @@ pub fn trial(
     i: u64,
     t: u64,
 ) -> SetUp
-    ensures { λ r. ⌜ (r .status ≡ 0 → Tried (r .words) (r .bytes) (memoryOf (now (permanent .exit)) (now (scratch .exit)) (now (map .exit))) t) ⌝ }
+    ensures { λ r. ⌜ (r .status ≡ 0 → Tried (r .words) (r .bytes) (returned permanent scratch map) t) ⌝ }
 {
     let first = host_state::scopes_set_up(permanent, scratch, map, h, i);
     if first.status != 0 {
