@@ -1,6 +1,6 @@
 // Op 04: an area is entered.
-use layout::display::Depth;
 use layout::answer::Answer;
+use layout::display::Depth;
 use layout::stack::Place;
 use model::Area;
 use rights::Right;

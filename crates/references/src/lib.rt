@@ -1,7 +1,7 @@
 // Ops 07 and 08: a reference is stored in a slot, or loaded from one.
+use layout::answer::Answer;
 use layout::display::Depth;
 use layout::handle;
-use layout::answer::Answer;
 use objects::Checked;
 use objects::Found;
 use rights::Right;
