@@ -16,17 +16,17 @@ ghost use Rattle.objects.specs.Resolving.{Fitting};
 ghost use Rattle.allocation.specs.Allocation.{Allocates};
 
 // The words of an object of a store: its header, and 0 in its slots and its data.
-fn write_object(store: &mut [u64], at: usize, slots: u64, words: u64)
-    requires { ⌜ (at + 1 + slots + words ≤ length (now store)) × (at + 1 + slots + words ≤ 16384) ⌝ }
-    ensures { λ r. ⌜ now (store .exit) ≡ objectWords (now (store .entry)) at slots words ⌝ }
+fn write_object(store: &mut [u64], at: usize, slots: u64, data_words: u64)
+    requires { ⌜ (at + 1 + slots + data_words ≤ length (now store)) × (at + 1 + slots + data_words ≤ 16384) ⌝ }
+    ensures { λ r. ⌜ now (store .exit) ≡ objectWords (now (store .entry)) at slots data_words ⌝ }
 {
-    let n = (slots + words) as usize;
+    let n = (slots + data_words) as usize;
     let mut i = 0;
     while i < n {
         store[at + 1 + i] = 0;
         i += 1;
     }
-    store[at] = handle::header(slots, words);
+    store[at] = handle::header(slots, data_words);
 }
 
 // Its map bits: 1 for the header, 0 for the n words after it.
@@ -45,16 +45,16 @@ fn put_object(
     area: u64,
     at: usize,
     slots: u64,
-    words: u64,
+    data_words: u64,
 )
-    requires { ⌜ (at + 1 + slots + words ≤ length (storeIn permanent scratch area)) × (at + 1 + slots + words ≤ 16384) ⌝ }
-    ensures { λ r. ⌜ Stores permanent scratch area (λ l. objectWords l at slots words) ⌝ }
+    requires { ⌜ (at + 1 + slots + data_words ≤ length (storeIn permanent scratch area)) × (at + 1 + slots + data_words ≤ 16384) ⌝ }
+    ensures { λ r. ⌜ Stores permanent scratch area (λ l. objectWords l at slots data_words) ⌝ }
 {
     if area < 2 {
-        write_object(permanent, at, slots, words);
+        write_object(permanent, at, slots, data_words);
         return;
     }
-    write_object(scratch, at, slots, words);
+    write_object(scratch, at, slots, data_words);
 }
 
 // Refusals 2, 5 and 12. No sum of the fields is taken, so none can wrap.

@@ -24,11 +24,11 @@ fn check_data(
 {
     match objects::check_object(words, bytes, permanent, scratch, map, t, p) {
         Checked::Refused(n) => Checked::Refused(n),
-        Checked::Object(o) => {
+        Checked::Passed(o) => {
             if o.data_words <= q {
                 return Checked::Refused(14);
             }
-            Checked::Object(o)
+            Checked::Passed(o)
         }
     }
 }
@@ -57,7 +57,7 @@ pub fn write(
     }
     match check_data(words, bytes, permanent, scratch, map, t, p, q) {
         Checked::Refused(status) => Answer { status, value: 0 },
-        Checked::Object(o) => {
+        Checked::Passed(o) => {
             let at = o.at + 1 + (o.slots + q) as usize;
             objects::put_word(permanent, scratch, o.area, at, word);
             let value = 0; // none is named
@@ -80,10 +80,10 @@ pub fn read(
     requires { ⌜ Usable words bytes ⌝ }
     ensures { λ r. ⌜ Answers r words bytes permanent scratch map (calls.read t p q) ⌝ }
 {
-    let caller = threads::check_caller(words, bytes, permanent, scratch, map, t);
-    if caller != 0 {
+    let refusal = threads::check_caller(words, bytes, permanent, scratch, map, t);
+    if refusal != 0 {
         return Answer {
-            status: caller,
+            status: refusal,
             value: 0,
         };
     }
@@ -92,7 +92,7 @@ pub fn read(
             status: n,
             value: 0,
         },
-        Checked::Object(x) => {
+        Checked::Passed(x) => {
             let from = x.at + 1 + (x.slots + q) as usize;
             let word = objects::word_at(permanent, scratch, x.area, from);
             Answer {

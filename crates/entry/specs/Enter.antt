@@ -14,7 +14,7 @@ use Rattle.rights.specs.declared.Right.the-variants.{Enter}
 use Rattle.model.specs.declared.Area.{Area}
 use Rattle.model.specs.State.{State, areaAt, threadAt, stackAt, innermost, madeAs, isMade, isScope, withThread}
 use Rattle.model.specs.Checks.{called, hasRight}
-use Rattle.model.specs.Scopes.{lastGeneration, otherParent, atLastGeneration, enterRest}
+use Rattle.model.specs.Scopes.{lastGeneration, otherParent, generationsOut, enterRest}
 use Rattle.model.specs.Invariant.{Good}
 use Rattle.model.proofs.Accepted.{Called, EnterOk, enter-ok}
 use Rattle.tables.specs.Decode.{stateOf, areaRecord, lenOf}
@@ -111,7 +111,7 @@ module _ (s : State) (t q : ℕ) where
     enter-no-area h = sym (called-rest s t a _ ∙ rw (le-leb 64 q h))
 
     pub enter-entry : q < 64 → thereRest s t q (innermost (stackAt s t)) ≡ enterRest s t q
-    unfolding enterRest entryRest isMade otherParent atLastGeneration
+    unfolding enterRest entryRest isMade otherParent generationsOut
     enter-entry h = sym (called-rest s t a _ ∙ rw (lt-leb 64 q h))
 
   -- n is what the checks answer

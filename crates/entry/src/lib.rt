@@ -164,10 +164,10 @@ pub fn enter_on(words: &mut Words, bytes: &mut Bytes, t: u64, q: u64) -> Answer
     requires { ⌜ Usable words bytes ⌝ }
     ensures { λ r. ⌜ Changes r words bytes (enterChange (before words bytes) t q) ⌝ }
 {
-    let caller = threads::check_thread(words, bytes, t);
-    if caller != 0 {
+    let refusal = threads::check_thread(words, bytes, t);
+    if refusal != 0 {
         return Answer {
-            status: caller,
+            status: refusal,
             value: 0,
         };
     }

@@ -49,8 +49,8 @@ fn left_area(x: Area) -> Area
 // Area q is left; the count that is left of a scope, else 0.
 fn leave_area(words: &mut Words, bytes: &Bytes, q: usize) -> u64
     requires { ⌜ Shaped (now words) (now bytes) × (q < 64) × (2 ≤ q → 0 < areaAt (stateIn words bytes) q .count) ⌝ }
-    ensures { λ r. ⌜ r ≡ pick (isScope q) (pred (areaAt (before words bytes) q .count)) 0 ⌝ }
-    ensures { λ r. ⌜ Leaves words bytes (leftArea (before words bytes) q) ⌝ }
+    ensures value { λ r. ⌜ r ≡ pick (isScope q) (pred (areaAt (before words bytes) q .count)) 0 ⌝ }
+    ensures state { λ r. ⌜ Leaves words bytes (leftArea (before words bytes) q) ⌝ }
 {
     if q < 2 {
         return 0;
@@ -71,8 +71,8 @@ fn pop(words: &mut Words, bytes: &Bytes, t: usize)
 
 fn apply_exit(words: &mut Words, bytes: &Bytes, t: usize) -> u64
     requires { ⌜ Usable words bytes × (t < 16) × (0 < threadAt (stateIn words bytes) t .len) ⌝ }
-    ensures { λ r. ⌜ r ≡ exitValue (before words bytes) t ⌝ }
-    ensures { λ r. ⌜ Leaves words bytes (exitState (before words bytes) t) ⌝ }
+    ensures value { λ r. ⌜ r ≡ exitValue (before words bytes) t ⌝ }
+    ensures state { λ r. ⌜ Leaves words bytes (exitState (before words bytes) t) ⌝ }
 {
     let top = threads::current_area(words, bytes, t);
     let count = leave_area(words, bytes, top as usize);

@@ -12,7 +12,7 @@ use Rattle.layout.specs.Header.{slotsOf, dataOf}
 use Rattle.model.specs.State.{State, Memory, areaAt, threadAt, stackAt, innermost, isMade, isOpen}
 use Rattle.model.specs.Checks.{fits, fitted, called, admit, headerAt, live, isObject, isReference, useRest}
 use Rattle.model.specs.Threads.{isKind, startRest, endRest}
-use Rattle.model.specs.Scopes.{makeRest, lastGeneration, otherParent, atLastGeneration, enterRest, exitRest}
+use Rattle.model.specs.Scopes.{makeRest, lastGeneration, otherParent, generationsOut, enterRest, exitRest}
 use Rattle.model.specs.Objects.{currentAt, allocateRest}
 use Rattle.model.specs.References.{mayRefer, slotRest, referenceRest, storeRest}
 use Rattle.model.specs.Data.{dataRest}
@@ -112,7 +112,7 @@ module _ (s : State) (t : ℕ) where
     pub generation : 2 ≤ q → areaAt s q .count ≡ 0 → areaAt s q .generation < lastGeneration
 
   pub enter-ok : (q : ℕ) → enterRest s t q ≡ 0 → EnterOk q
-  unfolding enterRest otherParent atLastGeneration
+  unfolding enterRest otherParent generationsOut
   enter-ok q e =
       let a = called-ok _ e in
       let b = peel _ _ _ (a .1) in

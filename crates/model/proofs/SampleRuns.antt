@@ -15,7 +15,7 @@ use Rattle.model.specs.State.{State, Memory, noArea, withWords, withUsed
 use Rattle.model.specs.SetUp.{standing, newThread, firstState}
 use Rattle.model.specs.Checks.{fits, fitted, called, hasRight, live, isObject, isReference, useRest}
 use Rattle.model.specs.Threads.{startRest, startState, endRest, endState}
-use Rattle.model.specs.Scopes.{makeRest, makeState, otherParent, atLastGeneration, enterRest, enteredArea, pushed, enterState, enterValue, exitRest, leftArea, popped, exitState, exitValue}
+use Rattle.model.specs.Scopes.{makeRest, makeState, otherParent, generationsOut, enterRest, enteredArea, pushed, enterState, enterValue, exitRest, leftArea, popped, exitState, exitValue}
 use Rattle.model.specs.Objects.{allocateRest, allocateState, filled, objectWords, objectBits, allocateMemory, allocateValue}
 use Rattle.model.specs.References.{mayRefer, storeAfter, slotRest, referenceRest, storeRest, loadRest}
 use Rattle.model.specs.Data.{dataRest, viewWords}
@@ -26,7 +26,7 @@ use Rattle.model.specs.Run.{World, kept, step, begin}
 unfoldable pub answer : World → Call → Reply
 unfolding refuse handleOf offsetOf areaOf generationOf headerOf slotsOf dataOf down bitAt withBit withoutBit cleared classOf rightsRows rightDigit allows rowHolds
     withArea withRow withThread withTaken entriesOf innermost isMade displayHolds withStore firstState fits fitted called hasRight live isObject isReference useRest
-    startRest startState endRest endState makeRest makeState otherParent atLastGeneration enterRest enteredArea pushed enterState enterValue
+    startRest startState endRest endState makeRest makeState otherParent generationsOut enterRest enteredArea pushed enterState enterValue
     exitRest leftArea popped exitState exitValue
     allocateRest allocateState filled objectWords objectBits allocateMemory allocateValue mayRefer storeAfter slotRest referenceRest storeRest loadRest
     dataRest viewWords outcomeOf step begin

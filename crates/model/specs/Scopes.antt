@@ -42,8 +42,8 @@ abbrev pub lastGeneration : ℕ
 lastGeneration = 17592186044415
 
 -- "17: scope not open, its turn 2^44 - 1". It asks for that turn or a higher one; under the invariant none is higher.
-unfoldable pub atLastGeneration : State → ℕ → Bool
-atLastGeneration s q = isScope q && (not (isOpen s q) && leb lastGeneration (areaAt s q .generation))
+unfoldable pub generationsOut : State → ℕ → Bool
+generationsOut s q = isScope q && (not (isOpen s q) && leb lastGeneration (areaAt s q .generation))
 
 -- refusals 2, 6, 5, 9, 10, 17 after 1: "6: area above 63 or scope not made", "9: stack has 32 entries"
 unfoldable pub enterRest : State → ℕ → ℕ → ℕ
@@ -53,7 +53,7 @@ enterRest s t q =
     (refuse (not (hasRight s t Enter q)) 5
     (refuse (leb 32 (threadAt s t .len)) 9
     (refuse (otherParent s t q) 10
-    (refuse (atLastGeneration s q) 17 0)))))
+    (refuse (generationsOut s q) 17 0)))))
 
 -- "An open scope may be entered only if its parent equals that innermost scope; its count rises by 1."
 abbrev pub reentered : Area → Area

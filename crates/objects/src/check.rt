@@ -10,7 +10,7 @@ ghost use Rattle.objects.specs.Resolving.{Admissible, Checks};
 
 // The object of a call, or the refusal of the call.
 pub enum Checked {
-    Object(Resolved),
+    Passed(Resolved),
     Refused(u64),
 }
 
@@ -34,5 +34,5 @@ pub fn check_object(
     if !threads::has_right(words, bytes, t as usize, Right::Use, o.area) {
         return Checked::Refused(5);
     }
-    Checked::Object(o)
+    Checked::Passed(o)
 }

@@ -47,11 +47,11 @@ fn check_slot(
 {
     match objects::check_object(words, bytes, permanent, scratch, map, t, p) {
         Checked::Refused(n) => Checked::Refused(n),
-        Checked::Object(o) => {
+        Checked::Passed(o) => {
             if o.slots <= q {
                 return Checked::Refused(14);
             }
-            Checked::Object(o)
+            Checked::Passed(o)
         }
     }
 }
@@ -100,7 +100,7 @@ fn check_store(
 {
     match check_slot(words, bytes, permanent, scratch, map, t, p, q) {
         Checked::Refused(n) => Checked::Refused(n),
-        Checked::Object(o) => {
+        Checked::Passed(o) => {
             let refusal = check_reference(words, bytes, permanent, scratch, map, t, target);
             let may = may_refer(words, bytes, o.area, handle::area(target));
             if refusal != 0 {
@@ -109,7 +109,7 @@ fn check_store(
             if !may {
                 return Checked::Refused(16);
             }
-            Checked::Object(o)
+            Checked::Passed(o)
         }
     }
 }
@@ -129,16 +129,16 @@ pub fn store(
     requires { ⌜ Usable words bytes ⌝ }
     ensures { λ r. ⌜ Answers r words bytes permanent scratch map (calls.store t p q target) ⌝ }
 {
-    let caller = threads::check_caller(words, bytes, permanent, scratch, map, t);
-    if caller != 0 {
+    let refusal = threads::check_caller(words, bytes, permanent, scratch, map, t);
+    if refusal != 0 {
         return Answer {
-            status: caller,
+            status: refusal,
             value: 0,
         };
     }
     match check_store(words, bytes, permanent, scratch, map, t, p, q, target) {
         Checked::Refused(status) => Answer { status, value: 0 },
-        Checked::Object(o) => {
+        Checked::Passed(o) => {
             let at = o.at + 1 + q as usize;
             objects::put_word(permanent, scratch, o.area, at, target);
             Answer {
@@ -174,7 +174,7 @@ pub fn load(
     }
     match check_slot(words, bytes, permanent, scratch, map, t, p, q) {
         Checked::Refused(status) => Answer { status, value: 0 },
-        Checked::Object(o) => {
+        Checked::Passed(o) => {
             let from = o.at + 1 + q as usize;
             let x = objects::word_at(permanent, scratch, o.area, from);
             let status = check_reference(words, bytes, permanent, scratch, map, t, x);

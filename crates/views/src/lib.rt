@@ -36,9 +36,9 @@ fn check_view(
     requires { ⌜ Usable words bytes ⌝ }
     ensures { λ r. ⌜ Checks r words bytes permanent scratch map p (λ s m. viewRefusal s m t p) ⌝ }
 {
-    let n = threads::check_caller(words, bytes, permanent, scratch, map, t);
-    if n != 0 {
-        return Checked::Refused(n);
+    let refusal = threads::check_caller(words, bytes, permanent, scratch, map, t);
+    if refusal != 0 {
+        return Checked::Refused(refusal);
     }
     objects::check_object(words, bytes, permanent, scratch, map, t, p)
 }
@@ -73,7 +73,7 @@ pub fn view_place(
             from: 0,
             len: 0,
         },
-        Checked::Object(o) => ViewPlace {
+        Checked::Passed(o) => ViewPlace {
             status: 0,
             store: store_of(o.area),
             from: o.at as u64 + 1 + o.slots,
@@ -121,7 +121,7 @@ pub fn view_status(
 {
     match check_view(words, bytes, permanent, scratch, map, t, p) {
         Checked::Refused(status) => Answer { status, value: 0 },
-        Checked::Object(_) => Answer {
+        Checked::Passed(_) => Answer {
             status: 0,
             value: 0,
         }

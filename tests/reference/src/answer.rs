@@ -36,7 +36,7 @@ pub enum Refusal {
     /// "assignment rule forbids"
     Assignment = 16,
     /// "scope not open, its turn 2^44 - 1"
-    LastGeneration = 17,
+    GenerationsOut = 17,
     /// "line not a frame"
     Frame = 18,
 }

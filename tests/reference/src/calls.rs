@@ -171,7 +171,7 @@ impl State {
     /// used words to 0 and its count to 1."
     fn open_scope(&mut self, area: u64, innermost: Option<u64>) -> Result<(), Refusal> {
         let scope = &mut self.areas[area as usize];
-        refuse_if(scope.generation >= LAST_GENERATION, Refusal::LastGeneration)?;
+        refuse_if(scope.generation >= LAST_GENERATION, Refusal::GenerationsOut)?;
         scope.parent = innermost;
         scope.generation += 1;
         scope.used = 0;

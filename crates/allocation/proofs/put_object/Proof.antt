@@ -19,7 +19,7 @@ returns : tie.Need-returns
 returns c =
     let a = c .before .before .before .before .before .before .before .args in
     rw (c .before .before .write-object .ensures)
-    (stored-permanent (now (a .permanent)) (now (a .scratch)) (a .area) (λ (l : List ℕ). objectWords l (a .at) (a .slots) (a .words)) (c .before .before .before .before .if1 .taken))
+    (stored-permanent (now (a .permanent)) (now (a .scratch)) (a .area) (λ (l : List ℕ). objectWords l (a .at) (a .slots) (a .data-words)) (c .before .before .before .before .if1 .taken))
 
 write-object-requires-2 : tie.Need-write-object-requires-2
 write-object-requires-2 c κs = rw (le-leb 2 (c .before .before .before .before .args .area) (c .before .if1 .left)) at (c .before .before .before .before .pre)
@@ -31,7 +31,7 @@ returns-2 : tie.Need-returns-2
 returns-2 c =
     let a = c .before .before .before .before .before .before .before .args in
     rw (c .before .before .write-object2 .ensures)
-    (stored-scratch (now (a .permanent)) (now (a .scratch)) (a .area) (λ (l : List ℕ). objectWords l (a .at) (a .slots) (a .words)) (c .before .before .before .before .if1 .left))
+    (stored-scratch (now (a .permanent)) (now (a .scratch)) (a .area) (λ (l : List ℕ). objectWords l (a .at) (a .slots) (a .data-words)) (c .before .before .before .before .if1 .left))
 
 pub put-object-spec : {M : Type 1} → statement M
 put-object-spec =

@@ -65,8 +65,8 @@ returns : tie.Need-returns Inv-loop μ-loop
 returns c =
     let a = c .before .before .before .before .args in
     let v = c .before .before .loop .inv in
-    let e : c .before .before .loop .i ≡ a .slots + a .words = omega arith in
-    rw (c .header .ensures, v .0, e) (object-written (now (a .store)) (a .at) (a .slots) (a .words) (omega arith) (omega arith))
+    let e : c .before .before .loop .i ≡ a .slots + a .data-words = omega arith in
+    rw (c .header .ensures, v .0, e) (object-written (now (a .store)) (a .at) (a .slots) (a .data-words) (omega arith) (omega arith))
 
 pub write-object-spec : {M : Type 1} → statement M
 write-object-spec =

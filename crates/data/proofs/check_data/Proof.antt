@@ -6,7 +6,7 @@ use Rattle.tables.specs.Contract.{stateIn, memoryIn}
 use native.Mathlib.Omega.{arith}
 use Rattle.model.specs.Checks.{useRest}
 use Rattle.objects.specs.Found.{objectOf}
-use Rattle.objects.specs.Checked.{object-checked, refused-checked, checked-object, checked-refused}
+use Rattle.objects.specs.Checked.{passed-checked, refused-checked, checked-passed, checked-refused}
 use Rattle.data.specs.Statuses.{data-not-used, data-past, data-in}
 use Rattle.data.proofs.check_data.Statement.{statement}
 use Rattle.data.proofs.check_data.Tie as tie
@@ -22,7 +22,7 @@ memory c = memoryIn (start c .args .permanent) (start c .args .scratch) (start c
 
 -- what check_object answered: an object
 used : (c : tie.After-known-told2) → (useRest (state (c .before .before .before)) (memory (c .before .before .before)) (start (c .before .before .before) .args .t) (start (c .before .before .before) .args .p) 0 ≡ 0) × (c .before .o .given .0 .0 ≡ objectOf (state (c .before .before .before)) (memory (c .before .before .before)) (start (c .before .before .before) .args .p))
-used c = checked-object _ (sym (c .before .o .given .1) ∙ c .before .before .before .check-object .ensures)
+used c = checked-passed _ (sym (c .before .o .given .1) ∙ c .before .before .before .check-object .ensures)
 
 check-object-requires : tie.Need-check-object-requires
 check-object-requires c κs = search needs
@@ -46,7 +46,7 @@ returns-2 c =
 returns-3 : tie.Need-returns-3
 returns-3 c =
     let u = used (c .before .before) in
-    object-checked _ (u .1) (data-in _ _ _ _ _ (u .0) _ (u .1) (c .if1 .left))
+    passed-checked _ (u .1) (data-in _ _ _ _ _ (u .0) _ (u .1) (c .if1 .left))
 
 pub check-data-spec : {M : Type 1} → statement M
 check-data-spec =

@@ -11,7 +11,7 @@ use Rattle.tables.specs.Contract.{stateIn, memoryIn}
 use Rattle.tables.specs.AnsweredLaws.{answered-refused, answered-accepted}
 use Rattle.threads.specs.Caller.{caller-refused, caller-admitted, admit-rest}
 use Rattle.objects.specs.Found.{objectOf}
-use Rattle.objects.specs.Checked.{checked-object, checked-refused}
+use Rattle.objects.specs.Checked.{checked-passed, checked-refused}
 use Rattle.objects.specs.Effects.{Room, data-room, data-stored}
 use Rattle.data.proofs.write.Statement.{statement}
 use Rattle.data.proofs.write.Tie as tie
@@ -40,7 +40,7 @@ abbrev past : tie.After-known-told2 → tie.Else1
 past c = answer c .before .before .before
 
 found : (c : tie.After-known-told2) → (dataRest (state (past c)) (memory (past c)) (start (past c) .args .t) (start (past c) .args .p) (start (past c) .args .q) ≡ 0) × (c .before .o .given .0 .0 ≡ objectOf (state (past c)) (memory (past c)) (start (past c) .args .p))
-found c = checked-object _ (sym (c .before .o .given .1) ∙ answer c .check-data .ensures)
+found c = checked-passed _ (sym (c .before .o .given .1) ∙ answer c .check-data .ensures)
 
 room : (c : tie.After-known-told2) → Room (memory (past c)) (c .before .o .given .0 .0) (c .before .o .given .0 .0 .slots + start (past c) .args .q)
 room c =

@@ -10,7 +10,7 @@ use Rattle.layout.specs.Handle.{areaOf}
 use Rattle.layout.specs.HandleLaws.{area-lt}
 use Rattle.model.specs.References.{mayRefer, slotRest}
 use Rattle.objects.specs.Found.{objectOf}
-use Rattle.objects.specs.Checked.{object-checked, refused-checked, checked-object, checked-refused}
+use Rattle.objects.specs.Checked.{passed-checked, refused-checked, checked-passed, checked-refused}
 use Rattle.objects.specs.Statuses.{area-is}
 use Rattle.references.specs.Statuses.{store-no-slot, store-no-reference, store-forbidden, store-allowed}
 use Rattle.references.proofs.check_store.Statement.{statement}
@@ -30,7 +30,7 @@ abbrev past : tie.After-known-told2 → tie.After-check-slot
 past c = c .before .before .before
 
 slot : (c : tie.After-known-told2) → (slotRest (state (past c)) (memory (past c)) (start (past c) .args .t) (start (past c) .args .p) (start (past c) .args .q) 0 ≡ 0) × (c .before .o .given .0 .0 ≡ objectOf (state (past c)) (memory (past c)) (start (past c) .args .p))
-slot c = checked-object _ (sym (c .before .o .given .1) ∙ past c .check-slot .ensures)
+slot c = checked-passed _ (sym (c .before .o .given .1) ∙ past c .check-slot .ensures)
 
 area : (c : tie.After-known-told2) → c .before .o .given .0 .0 .area ≡ areaOf (start (past c) .args .p)
 area c = area-is (state (past c)) (memory (past c)) (start (past c) .args .p) _ (slot c .1)
@@ -80,7 +80,7 @@ returns-3 c =
 returns-4 : tie.Need-returns-4
 returns-4 c =
     let d = c .before .before .before .before .before in
-    object-checked _ (slot d .1)
+    passed-checked _ (slot d .1)
     (store-allowed _ _ _ _ _ _ (slot d .0) (sym (c .before .before .before .before .check-reference .ensures) ∙ c .before .if1 .left) (rule (c .before .before) ∙ not-false (c .before .before .may-refer .result) (c .if2 .left)))
 
 pub check-store-spec : {M : Type 1} → statement M

@@ -10,7 +10,7 @@ use Rattle.model.proofs.Accepted.{Admitted, SlotOk, slot-ok}
 use Rattle.tables.specs.AnsweredLaws.{answered-refused, answered-accepted}
 use Rattle.threads.specs.Caller.{caller-refused, caller-admitted, admit-rest}
 use Rattle.objects.specs.Found.{objectOf}
-use Rattle.objects.specs.Checked.{checked-object, checked-refused}
+use Rattle.objects.specs.Checked.{checked-passed, checked-refused}
 use Rattle.references.specs.Statuses.{load-no-slot, load-slot}
 use Rattle.objects.specs.Effects.{Room, slot-room, word-is}
 use Rattle.references.proofs.load.Statement.{statement}
@@ -40,7 +40,7 @@ abbrev past : tie.After-known-told2 → tie.Else1
 past c = answer c .before
 
 slot : (c : tie.After-known-told2) → (slotRest (state (past c)) (memory (past c)) (start (past c) .args .t) (start (past c) .args .p) (start (past c) .args .q) 0 ≡ 0) × (c .before .o .given .0 .0 ≡ objectOf (state (past c)) (memory (past c)) (start (past c) .args .p))
-slot c = checked-object _ (sym (c .before .o .given .1) ∙ answer c .check-slot .ensures)
+slot c = checked-passed _ (sym (c .before .o .given .1) ∙ answer c .check-slot .ensures)
 
 slot-is : (c : tie.After-known-told2) → SlotOk (state (past c)) (memory (past c)) (start (past c) .args .t) (start (past c) .args .p) (start (past c) .args .q)
 slot-is c = slot-ok (state (past c)) (memory (past c)) (start (past c) .args .t) (start (past c) .args .p) (start (past c) .args .q) 0 (slot c .0) .0

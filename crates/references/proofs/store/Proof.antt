@@ -10,7 +10,7 @@ use Rattle.model.proofs.Accepted.{Admitted, store-ok}
 use Rattle.tables.specs.AnsweredLaws.{answered-refused, answered-accepted}
 use Rattle.threads.specs.Caller.{caller-refused, caller-admitted, admit-rest}
 use Rattle.objects.specs.Found.{objectOf}
-use Rattle.objects.specs.Checked.{checked-object, checked-refused}
+use Rattle.objects.specs.Checked.{checked-passed, checked-refused}
 use Rattle.objects.specs.Effects.{Room, slot-room, slot-stored}
 use Rattle.references.proofs.store.Statement.{statement}
 use Rattle.references.proofs.store.Tie as tie
@@ -39,7 +39,7 @@ abbrev past : tie.After-known-told2 → tie.Else1
 past c = answer c .before .before .before
 
 found : (c : tie.After-known-told2) → (storeRest (state (past c)) (memory (past c)) (start (past c) .args .t) (start (past c) .args .p) (start (past c) .args .q) (start (past c) .args .target) ≡ 0) × (c .before .o .given .0 .0 ≡ objectOf (state (past c)) (memory (past c)) (start (past c) .args .p))
-found c = checked-object _ (sym (c .before .o .given .1) ∙ answer c .check-store .ensures)
+found c = checked-passed _ (sym (c .before .o .given .1) ∙ answer c .check-store .ensures)
 
 room : (c : tie.After-known-told2) → Room (memory (past c)) (c .before .o .given .0 .0) (start (past c) .args .q)
 room c =

@@ -7,7 +7,7 @@ use native.Mathlib.Omega.{arith}
 use Rattle.model.specs.Data.{viewRefusal}
 use Rattle.objects.specs.Found.{objectOf}
 use Rattle.objects.specs.Places.{Lies}
-use Rattle.objects.specs.Checked.{checked-object, checked-refused}
+use Rattle.objects.specs.Checked.{checked-passed, checked-refused}
 use Rattle.views.specs.ViewLaws.{place-refused, place-accepted, object-in}
 use Rattle.views.proofs.view_place.Statement.{statement}
 use Rattle.views.proofs.view_place.Tie as tie
@@ -26,7 +26,7 @@ abbrev past : tie.After-o → tie.After-check-view
 past c = c .before .before
 
 used : (c : tie.After-o) → (viewRefusal (state (past c)) (memory (past c)) (start (past c) .args .t) (start (past c) .args .p) ≡ 0) × (c .o .given .0 .0 ≡ objectOf (state (past c)) (memory (past c)) (start (past c) .args .p))
-used c = checked-object _ (sym (c .o .given .1) ∙ past c .check-view .ensures)
+used c = checked-passed _ (sym (c .o .given .1) ∙ past c .check-view .ensures)
 
 lies : (c : tie.After-o) → Lies (memory (past c)) (c .o .given .0 .0)
 lies c = object-in (state (past c)) (memory (past c)) (start (past c) .args .t) (start (past c) .args .p) (used c .0) _ (used c .1) (start (past c) .pre .good)

@@ -5,7 +5,7 @@ use Rattle.model.specs.State.{State, Memory}
 use Rattle.tables.specs.Contract.{stateIn, memoryIn}
 use Rattle.model.specs.Calls as calls
 use Rattle.tables.specs.AnsweredLaws.{answered-refused, answered-accepted}
-use Rattle.objects.specs.Checked.{checked-object, checked-refused}
+use Rattle.objects.specs.Checked.{checked-passed, checked-refused}
 use Rattle.views.proofs.view_status.Statement.{statement}
 use Rattle.views.proofs.view_status.Tie as tie
 
@@ -40,7 +40,7 @@ returns-2 : tie.Need-returns-2
 returns-2 c =
     let d = c .before .before in
     let y = start d .pre in
-    let e = checked-object _ (sym (c .enum-told .given .1) ∙ d .check-view .ensures) in
+    let e = checked-passed _ (sym (c .enum-told .given .1) ∙ d .check-view .ensures) in
     answered-accepted _ _ (memory d) (call d) y (sym (e .0)) refl refl refl (record { sized = y .sized; state = refl }) refl
 
 pub view-status-spec : {M : Type 1} → statement M

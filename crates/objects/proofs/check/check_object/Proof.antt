@@ -8,7 +8,7 @@ use Rattle.tables.specs.Contract.{stateIn, memoryIn}
 use Rattle.objects.specs.declared.find.Found.the-variants.{At}
 use Rattle.objects.specs.Found.{foundOf}
 use Rattle.objects.specs.Places.{at-live}
-use Rattle.objects.specs.Checked.{object-checked, refused-checked}
+use Rattle.objects.specs.Checked.{passed-checked, refused-checked}
 use Rattle.objects.specs.Statuses.{use-nothing, use-no-right, use-right}
 use Rattle.objects.proofs.check.check_object.Statement.{statement}
 use Rattle.objects.proofs.check.check_object.Tie as tie
@@ -58,7 +58,7 @@ returns-3 : tie.Need-returns-3
 returns-3 c =
     let k = c .before .before in
     let i = start (past k) in
-    object-checked _ (at-live _ _ _ _ (seen k) .1) (use-right _ _ _ _ (i .pre .0 .good) _ (seen k) (sym (c .before .has-right .ensures) ∙ not-false (c .before .has-right .result) (c .if1 .left)))
+    passed-checked _ (at-live _ _ _ _ (seen k) .1) (use-right _ _ _ _ (i .pre .0 .good) _ (seen k) (sym (c .before .has-right .ensures) ∙ not-false (c .before .has-right .result) (c .if1 .left)))
 
 pub check-object-spec : {M : Type 1} → statement M
 check-object-spec =
