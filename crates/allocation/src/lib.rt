@@ -66,7 +66,7 @@ fn check_allocate(words: &Words, bytes: &Bytes, t: u64, slots: u64, data_words: 
     if refusal != 0 {
         return refusal;
     }
-    let area = threads::current_area(words, bytes, t as usize);
+    let area = threads::top_entry(words, bytes, t as usize).area;
     let may = threads::has_right(words, bytes, t as usize, Right::Allocate, area as u64);
     let x = tables::area_at(words, area as usize);
     let room = x.size - x.used;
@@ -98,7 +98,7 @@ fn apply_allocate(
     requires { ⌜ Fitting words bytes permanent scratch map × (allocateRest (stateIn words bytes) t slots data_words ≡ 0) ⌝ }
     ensures { λ r. ⌜ Allocates r words bytes permanent scratch map t slots data_words ⌝ }
 {
-    let area = threads::current_area(words, bytes, t) as u64;
+    let area = threads::top_entry(words, bytes, t).area as u64;
     let x = tables::area_at(words, area as usize);
     let used = x.used + 1 + slots + data_words;
     let next = Area {

@@ -17,7 +17,8 @@ use Rattle.model.specs.Checks.{called, hasRight}
 use Rattle.model.specs.Scopes.{lastGeneration, otherParent, generationsOut, enterRest}
 use Rattle.model.specs.Invariant.{Good}
 use Rattle.model.proofs.Accepted.{Called, EnterOk, enter-ok}
-use Rattle.tables.specs.Decode.{stateOf, areaRecord, lenOf}
+use Rattle.tables.specs.declared.thread.ThreadWords.{ThreadWords}
+use Rattle.tables.specs.Decode.{stateOf, areaRecord, threadRecord}
 use Rattle.tables.specs.Laws.{area-read, len-read}
 use Rattle.threads.specs.Caller.{thread-refused, called-rest}
 use Rattle.model.proofs.Bounds.{inner-area, count-bound}
@@ -130,11 +131,11 @@ module _ (s : State) (t q : ℕ) where
         };
       }
 
--- the refusals of a thread and an area that are there, where r, l and x are what the code reads of them
-pub there-read : (w b : List ℕ) (t q p : ℕ) {r : Bool} {l n : ℕ} {x : Area} → t < 16 → q < 64
-    → r ≡ hasRight (stateOf w b) t Enter q → l ≡ lenOf w t → x ≡ areaRecord w q
-    → n ≡ entryRest r l p x q → n ≡ thereRest (stateOf w b) t q p
-there-read w b t q p ht hq er el ex e = rw (sym er, len-read w b t ht ∙ sym el, area-read w b q hq ∙ sym ex) e
+-- the refusals of a thread and an area that are there, where r, h and x are what the code reads of them
+pub there-read : (w b : List ℕ) (t q p : ℕ) {r : Bool} {h : ThreadWords} {n : ℕ} {x : Area} → t < 16 → q < 64
+    → r ≡ hasRight (stateOf w b) t Enter q → h ≡ threadRecord w t → x ≡ areaRecord w q
+    → n ≡ entryRest r (h .len) p x q → n ≡ thereRest (stateOf w b) t q p
+there-read w b t q p ht hq er el ex e = rw (sym er, len-read w b t ht el, area-read w b q hq ∙ sym ex) e
 
 -- what an area that opens has, from its record in the words
 module _ (w b : List ℕ) (q p : ℕ) (o : Openable (stateOf w b) q p) {x : Area} where

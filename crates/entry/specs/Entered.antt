@@ -13,8 +13,9 @@ use Rattle.layout.specs.Display.{extendedRow}
 use Rattle.model.specs.declared.Area.{Area}
 use Rattle.model.specs.State.{State, areaAt, threadAt, withArea, withRow, stackAt, innermost, isScope}
 use Rattle.model.specs.Scopes.{reentered, opened, enteredArea, pushed, enterState, enterValue}
-use Rattle.tables.specs.Decode.{stateOf, areaRecord, putArea, lenOf, putLen, putEntry, putInner, displayRow, putRow, Shaped, Holds}
-use Rattle.tables.specs.Laws.{area-read, row-read, len-read, length-row, state-area, state-row, state-push}
+use Rattle.tables.specs.declared.thread.ThreadWords.{ThreadWords}
+use Rattle.tables.specs.Decode.{stateOf, areaRecord, putArea, threadRecord, putThread, putEntry, displayRow, putRow, Shaped, Holds}
+use Rattle.tables.specs.Laws.{area-read, row-read, kind-read, len-read, length-row, state-area, state-row, state-push}
 use Rattle.entry.specs.Enter.{pushedState}
 
 -- ---- the area and the value, where x is what the code reads of area q, y what it makes of it, and v the words after that
@@ -65,13 +66,11 @@ module _ (w b : List ℕ) (z : Shaped w b) (q p : ℕ) (hq : q < 64) (hp : p < 6
 
 -- ---- the stack
 
-pub pushed-holds : (w b : List ℕ) → Shaped w b → (t q i n : ℕ) → t < 16 → n ≡ lenOf w t → n < 32
-    → Holds (putLen w t (n + 1)) (putInner (putEntry b t n q) t n i) (pushedState (stateOf w b) t q i)
+-- x are the words of the thread
+pub pushed-holds : (w b : List ℕ) → Shaped w b → (t q i : ℕ) {x : ThreadWords} → t < 16 → x ≡ threadRecord w t → x .len < 32
+    → Holds (putThread w t (record { kind = x .kind; len = x .len + 1 })) (putEntry b t (x .len) (record { area = q; inner = i })) (pushedState (stateOf w b) t q i)
 unfolding pushedState
-pushed-holds w b z t q i n h e k =
-    let l : threadAt (stateOf w b) t .len ≡ n = len-read w b t h ∙ sym e in
-    let p = state-push w b t n (suc n) q i h k z in
-    rw (l, add-one n) p
+pushed-holds w b z t q i {x} h e k = rw (kind-read w b t h e, len-read w b t h e, add-one (x .len)) (state-push w b t (x .len) _ _ h k z)
 
 -- the area, then the stack
 module _ (s : State) (q p : ℕ) where

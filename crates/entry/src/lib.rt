@@ -5,6 +5,8 @@ use layout::stack::Place;
 use model::Area;
 use rights::Right;
 use tables::Bytes;
+use tables::Entry;
+use tables::ThreadWords;
 use tables::Words;
 ghost use mathlib.Core.Path.{_≡_};
 ghost use Prim.Native.Nat.{_<_, _≤_};
@@ -57,7 +59,7 @@ fn check_there(words: &Words, bytes: &Bytes, t: usize, q: u64, inner: u8) -> u64
     ensures { λ n. ⌜ n ≡ thereRest (before words bytes) t q inner ⌝ }
 {
     let allowed = threads::has_right(words, bytes, t, Right::Enter, q);
-    let len = tables::len_at(words, t);
+    let len = tables::thread_at(words, t).len;
     let x = tables::area_at(words, q as usize);
     check_entry(allowed, len, inner as u64, x, q)
 }
@@ -138,11 +140,11 @@ fn push(words: &mut Words, bytes: &mut Bytes, t: usize, q: u8, inner: u8)
     requires { ⌜ Shaped (now words) (now bytes) × (t < 16) × (threadAt (stateIn words bytes) t .len < 32) ⌝ }
     ensures { λ u. ⌜ Leaves words bytes (pushedState (before words bytes) t q inner) ⌝ }
 {
-    let len = tables::len_at(words, t) as usize;
-    let top = Place(len);
-    tables::put_entry(bytes, t, top, q);
-    tables::put_inner(bytes, t, top, inner);
-    tables::put_len(words, t, len as u64 + 1);
+    let h = tables::thread_at(words, t);
+    let top = Place(h.len as usize);
+    tables::put_entry(bytes, t, top, Entry { area: q, inner });
+    let len = h.len + 1;
+    tables::put_thread(words, t, ThreadWords { kind: h.kind, len });
 }
 
 // ---- the call
@@ -177,7 +179,7 @@ pub fn enter_on(words: &mut Words, bytes: &mut Bytes, t: u64, q: u64) -> Answer
             value: 0,
         };
     }
-    let inner = threads::innermost_scope(words, bytes, t as usize);
+    let inner = threads::top_entry(words, bytes, t as usize).inner;
     let status = check_there(words, bytes, t as usize, q, inner);
     if status != 0 {
         return Answer { status, value: 0 };

@@ -14,8 +14,9 @@ use Rattle.model.specs.State.{State, areaAt, threadAt, withArea, withThread, st
 use Rattle.model.specs.Checks.{called}
 use Rattle.model.specs.Scopes.{exitRest, left, leftArea, popped, exitState, exitValue}
 use Rattle.model.proofs.Accepted.{Called, ExitOk, exit-ok}
-use Rattle.tables.specs.Decode.{stateOf, areaRecord, putArea, lenOf, putLen, Shaped, Holds}
-use Rattle.tables.specs.Laws.{area-read, len-read, state-area, state-len}
+use Rattle.tables.specs.declared.thread.ThreadWords.{ThreadWords}
+use Rattle.tables.specs.Decode.{stateOf, areaRecord, putArea, threadRecord, putThread, Shaped, Holds}
+use Rattle.tables.specs.Laws.{area-read, kind-read, len-read, state-area, state-thread}
 use Rattle.threads.specs.Caller.{thread-refused, called-rest}
 
 module _ (s : State) (t : ℕ) where
@@ -69,13 +70,11 @@ left-open w b q k o e h = rw (area-read w b q k ∙ sym e) at (o h)
 
 -- ---- the stack
 
-pub popped-holds : (w b : List ℕ) → Shaped w b → (t n : ℕ) → t < 16 → n ≡ lenOf w t
-    → Holds (putLen w t (n - 1)) b (withThread (stateOf w b) t (popped (threadAt (stateOf w b) t)))
+-- x are the words of the thread
+pub popped-holds : (w b : List ℕ) → Shaped w b → (t : ℕ) {x : ThreadWords} → t < 16 → x ≡ threadRecord w t
+    → Holds (putThread w t (record { kind = x .kind; len = x .len - 1 })) b (withThread (stateOf w b) t (popped (threadAt (stateOf w b) t)))
 unfolding popped
-popped-holds w b z t n h e =
-    let l : threadAt (stateOf w b) t .len ≡ n = len-read w b t h ∙ sym e in
-    let d : n - 1 ≡ pred n = omega arith in
-    rw (l, d) (state-len w b t (pred n) h z)
+popped-holds w b z t {x} h e = rw (kind-read w b t h e, len-read w b t h e, sub-one (x .len)) (state-thread w b t _ h z)
 
 module _ (s : State) (q : ℕ) where
   pub left-threads : (t : ℕ) → threadAt (leftArea s q) t ≡ threadAt s t

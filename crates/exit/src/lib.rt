@@ -2,6 +2,7 @@
 use layout::answer::Answer;
 use model::Area;
 use tables::Bytes;
+use tables::ThreadWords;
 use tables::Words;
 ghost use mathlib.Core.Path.{_≡_};
 ghost use Prim.Native.Nat.{pred, _<_, _≤_};
@@ -19,7 +20,7 @@ fn check_exit(words: &Words, bytes: &Bytes, t: u64) -> u64
     if refusal != 0 {
         return refusal;
     }
-    if tables::len_at(words, t as usize) == 0 {
+    if tables::thread_at(words, t as usize).len == 0 {
         return 11;
     }
     0
@@ -65,8 +66,9 @@ fn pop(words: &mut Words, bytes: &Bytes, t: usize)
     requires { ⌜ Shaped (now words) (now bytes) × (t < 16) × (0 < threadAt (stateIn words bytes) t .len) ⌝ }
     ensures { λ u. ⌜ Leaves words bytes (withThread (before words bytes) t (popped (threadAt (before words bytes) t))) ⌝ }
 {
-    let len = tables::len_at(words, t);
-    tables::put_len(words, t, len - 1);
+    let h = tables::thread_at(words, t);
+    let len = h.len - 1;
+    tables::put_thread(words, t, ThreadWords { kind: h.kind, len });
 }
 
 fn apply_exit(words: &mut Words, bytes: &Bytes, t: usize) -> u64
@@ -74,7 +76,7 @@ fn apply_exit(words: &mut Words, bytes: &Bytes, t: usize) -> u64
     ensures value { λ r. ⌜ r ≡ exitValue (before words bytes) t ⌝ }
     ensures state { λ r. ⌜ Leaves words bytes (exitState (before words bytes) t) ⌝ }
 {
-    let top = threads::current_area(words, bytes, t);
+    let top = threads::top_entry(words, bytes, t).area;
     let count = leave_area(words, bytes, top as usize);
     pop(words, bytes, t);
     count

@@ -8,7 +8,7 @@ use lib.Seq.{ext-getD}
 use Rattle.model.specs.State.{State, noArea}
 use Rattle.model.specs.SetUp.{newThread}
 use Rattle.tables.specs.Cut.{cut, each, each-length, each-at}
-use Rattle.tables.specs.Decode.{areaCount, threadCount, areaIndex, kindIndex, lenIndex, lengthsAt, takenAt, wordCount, rowBytes, rowIndex, innerRows, displayRows, byteCount, areaRecord, byteRow, threadOf, displayRow, stateOf, Shaped, Holds}
+use Rattle.tables.specs.Decode.{areaCount, threadCount, areaIndex, threadIndex, lengthsAt, takenAt, wordCount, rowBytes, rowIndex, innerRows, displayRows, byteCount, areaRecord, byteRow, threadOf, displayRow, stateOf, Shaped, Holds}
 
 each-const : {A : Type 0} (f : ℕ → A) (n : ℕ) (x : A) → ((j : ℕ) → f j ≡ x) → each f n ≡ replicate n x
 each-const f n x h =
@@ -44,7 +44,7 @@ blank-holds =
     = each-const (displayRow (replicate byteCount 0)) areaCount (replicate rowBytes 0) (λ j. zero-row (displayRows + j)) in
     let threads : each (threadOf (replicate wordCount 0) (replicate byteCount 0)) threadCount ≡ replicate threadCount newThread
     = each-const (threadOf (replicate wordCount 0) (replicate byteCount 0)) threadCount newThread
-    (λ j. rw (zeros wordCount (kindIndex j), zeros wordCount (lenIndex j), zero-row j, zero-row (innerRows + j)) refl) in
+    (λ j. rw (zeros wordCount (threadIndex j), zeros wordCount (threadIndex j + 1), zero-row j, zero-row (innerRows + j)) refl) in
     record {
       sized = record { words = length-replicate {A = ℕ} wordCount 0; bytes = length-replicate {A = ℕ} byteCount 0; spare = λ a h. zeros wordCount (areaIndex a + 7) };
       state = λ i. record {

@@ -7,6 +7,8 @@ use lib.ListN.{length, getD, set}
 use Rattle.model.specs.declared.Area.{Area}
 use Rattle.model.specs.declared.Lengths.{Lengths}
 use Rattle.model.specs.State.{Thread, State}
+use Rattle.tables.specs.declared.thread.ThreadWords.{ThreadWords}
+use Rattle.tables.specs.declared.thread.Entry.{Entry}
 use Rattle.tables.specs.Cut.{cut, put, each}
 
 -- ---- where the words lie: the areas, the threads, the three lengths, the scratch words taken
@@ -33,11 +35,8 @@ threadsAt = areaCount * areaWords
 abbrev pub threadWords : ℕ
 threadWords = 2
 
-abbrev pub kindIndex : ℕ → ℕ
-kindIndex t = threadsAt + t * threadWords
-
-abbrev pub lenIndex : ℕ → ℕ
-lenIndex t = threadsAt + 1 + t * threadWords
+abbrev pub threadIndex : ℕ → ℕ
+threadIndex t = threadsAt + t * threadWords
 
 abbrev pub lengthsAt : ℕ
 lengthsAt = threadsAt + threadCount * threadWords
@@ -120,32 +119,21 @@ putByte b n k v = set b (rowIndex n + k) v
 
 -- ---- threads: two words, and two rows of bytes
 
-abbrev pub kindOf : List ℕ → ℕ → ℕ
-kindOf w t = getD w (kindIndex t) 0
+abbrev pub threadRecord : List ℕ → ℕ → ThreadWords
+threadRecord w t = record { kind = getD w (threadIndex t) 0; len = getD w (threadIndex t + 1) 0 }
 
-abbrev pub putKind : List ℕ → ℕ → ℕ → List ℕ
-putKind w t k = set w (kindIndex t) k
+abbrev pub putThread : List ℕ → ℕ → ThreadWords → List ℕ
+putThread w t x = set (set w (threadIndex t) (x .kind)) (threadIndex t + 1) (x .len)
 
-abbrev pub lenOf : List ℕ → ℕ → ℕ
-lenOf w t = getD w (lenIndex t) 0
+-- an entry, with the innermost scope as of it
+abbrev pub entryRecord : List ℕ → ℕ → ℕ → Entry
+entryRecord b t k = record { area = byteOf b t k; inner = byteOf b (innerRows + t) k }
 
-abbrev pub putLen : List ℕ → ℕ → ℕ → List ℕ
-putLen w t n = set w (lenIndex t) n
-
-abbrev pub entryOf : List ℕ → ℕ → ℕ → ℕ
-entryOf b t k = byteOf b t k
-
-abbrev pub putEntry : List ℕ → ℕ → ℕ → ℕ → List ℕ
-putEntry b t k v = putByte b t k v
-
-abbrev pub innerOf : List ℕ → ℕ → ℕ → ℕ
-innerOf b t k = byteOf b (innerRows + t) k
-
-abbrev pub putInner : List ℕ → ℕ → ℕ → ℕ → List ℕ
-putInner b t k v = putByte b (innerRows + t) k v
+abbrev pub putEntry : List ℕ → ℕ → ℕ → Entry → List ℕ
+putEntry b t k x = putByte (putByte b t k (x .area)) (innerRows + t) k (x .inner)
 
 unfoldable pub threadOf : List ℕ → List ℕ → ℕ → Thread
-threadOf w b t = record { kind = kindOf w t; len = lenOf w t; entries = byteRow b t; inner = byteRow b (innerRows + t) }
+threadOf w b t = record { kind = threadRecord w t .kind; len = threadRecord w t .len; entries = byteRow b t; inner = byteRow b (innerRows + t) }
 
 -- ---- displays
 

@@ -14,9 +14,11 @@ use lib.Seq.{ext-getD, getD-set-same, getD-set-other}
 use Rattle.model.specs.declared.Area.{Area}
 use Rattle.model.specs.declared.Lengths.{Lengths}
 use Rattle.model.specs.State.{State, Thread, noArea, noThread, areaAt, rowAt, threadAt, withArea, withRow, withThread, withTaken}
+use Rattle.tables.specs.declared.thread.ThreadWords.{ThreadWords}
+use Rattle.tables.specs.declared.thread.Entry.{Entry}
 use Rattle.tables.specs.Cut.{cut, put, each, from, getD-cut, length-cut, length-put, cut-put, cut-put-other, getD-put-other, cut-set, cut-set-other, each-at, each-set, each-same}
-use Rattle.tables.specs.Decode.{areaCount, threadCount, areaWords, areaIndex, threadsAt, threadWords, kindIndex, lenIndex, lengthsAt, takenAt, wordCount, rowBytes, rowIndex, innerRows, displayRows, rowCount, byteCount}
-use Rattle.tables.specs.Decode.{areaRecord, spareOf, putArea, lengthsRecord, putLengths, takenOf, putTaken, byteRow, putByteRow, byteOf, putByte, kindOf, putKind, lenOf, putLen, entryOf, putEntry, innerOf, putInner, threadOf, displayRow, putRow, stateOf, Shaped, Holds}
+use Rattle.tables.specs.Decode.{areaCount, threadCount, areaWords, areaIndex, threadsAt, threadWords, threadIndex, lengthsAt, takenAt, wordCount, rowBytes, rowIndex, innerRows, displayRows, rowCount, byteCount}
+use Rattle.tables.specs.Decode.{areaRecord, spareOf, putArea, lengthsRecord, putLengths, takenOf, putTaken, byteRow, putByteRow, byteOf, putByte, threadRecord, putThread, entryRecord, putEntry, threadOf, displayRow, putRow, stateOf, Shaped, Holds}
 
 -- ---- the records of a table's state
 
@@ -41,19 +43,20 @@ module _ (w b : List ℕ) where
   unfolding stateOf
   thread-read t h = each-at (threadOf w b) threadCount t noThread h
 
-  pub kind-read : (t : ℕ) → t < threadCount → threadAt (stateOf w b) t .kind ≡ kindOf w t
+  -- where x are the words of a thread
+  pub kind-read : (t : ℕ) {x : ThreadWords} → t < threadCount → x ≡ threadRecord w t → threadAt (stateOf w b) t .kind ≡ x .kind
   unfolding threadOf
-  kind-read t h = ap (λ (x : Thread). x .kind) (thread-read t h)
+  kind-read t h e = ap (λ (y : Thread). y .kind) (thread-read t h) ∙ sym (ap (λ (y : ThreadWords). y .kind) e)
 
-  pub len-read : (t : ℕ) → t < threadCount → threadAt (stateOf w b) t .len ≡ lenOf w t
+  pub len-read : (t : ℕ) {x : ThreadWords} → t < threadCount → x ≡ threadRecord w t → threadAt (stateOf w b) t .len ≡ x .len
   unfolding threadOf
-  len-read t h = ap (λ (x : Thread). x .len) (thread-read t h)
+  len-read t h e = ap (λ (y : Thread). y .len) (thread-read t h) ∙ sym (ap (λ (y : ThreadWords). y .len) e)
 
-  pub entry-read : (t k : ℕ) → t < threadCount → k < rowBytes → getD (threadAt (stateOf w b) t .entries) k 0 ≡ entryOf b t k
+  pub entry-read : (t k : ℕ) → t < threadCount → k < rowBytes → getD (threadAt (stateOf w b) t .entries) k 0 ≡ entryRecord b t k .area
   unfolding threadOf
   entry-read t k h g = ap (λ (x : Thread). getD (x .entries) k 0) (thread-read t h) ∙ byte-read b t k g
 
-  pub inner-read : (t k : ℕ) → t < threadCount → k < rowBytes → getD (threadAt (stateOf w b) t .inner) k 0 ≡ innerOf b t k
+  pub inner-read : (t k : ℕ) → t < threadCount → k < rowBytes → getD (threadAt (stateOf w b) t .inner) k 0 ≡ entryRecord b t k .inner
   unfolding threadOf
   inner-read t k h g = ap (λ (x : Thread). getD (x .inner) k 0) (thread-read t h) ∙ byte-read b (innerRows + t) k g
 
@@ -152,7 +155,7 @@ module _ (w w′ : List ℕ) where
   threads-kept : ((j : ℕ) → threadsAt ≤ j → j < lengthsAt → getD w′ j 0 ≡ getD w j 0) → (b : List ℕ) → each (threadOf w′ b) threadCount ≡ each (threadOf w b) threadCount
   unfolding threadOf
   threads-kept mid b = each-same (threadOf w b) (threadOf w′ b) threadCount noThread (λ j l.
-      rw (mid (kindIndex j) (omega arith) (omega arith), mid (lenIndex j) (omega arith) (omega arith)) refl)
+      rw (mid (threadIndex j) (omega arith) (omega arith), mid (threadIndex j + 1) (omega arith) (omega arith)) refl)
 
 module _ (w b : List ℕ) where
   -- ---- an area is written
@@ -195,11 +198,11 @@ module _ (w b : List ℕ) where
       (λ j l. rw (p .others j (λ e. omega arith), p .others (innerRows + j) (λ e. omega arith)) refl) in
       record { sized = record { words = z .words; bytes = p .long; spare = z .spare }; state = rw (rows, threads) refl }
 
-  -- ---- a thread is written: its kind, its length, its entries
+  -- ---- a thread is written: its words, its entries
 
   record ThreadWritten (w′ b′ : List ℕ) (t : ℕ) (h : Thread) : Type 0 where
     here : threadOf w′ b′ t ≡ h
-    words : (j : ℕ) → j ≢ kindIndex t → j ≢ lenIndex t → getD w′ j 0 ≡ getD w j 0
+    words : (j : ℕ) → j ≢ threadIndex t → j ≢ threadIndex t + 1 → getD w′ j 0 ≡ getD w j 0
     rows : (n : ℕ) → n ≢ t → n ≢ innerRows + t → byteRow b′ n ≡ byteRow b n
     long : length w′ ≡ wordCount
     wide : length b′ ≡ byteCount
@@ -214,8 +217,8 @@ module _ (w b : List ℕ) where
       let threads : each (threadOf w′ b′) threadCount ≡ set (each (threadOf w b) threadCount) t h
       = each-set (threadOf w b) (threadOf w′ b′) threadCount t h (z .here) (λ j l ne.
       rw (
-        z .words (kindIndex j) (λ e. ne (omega arith)) (λ e. omega arith),
-        z .words (lenIndex j) (λ e. omega arith) (λ e. ne (omega arith)),
+        z .words (threadIndex j) (λ e. ne (omega arith)) (λ e. omega arith),
+        z .words (threadIndex j + 1) (λ e. omega arith) (λ e. ne (omega arith)),
         z .rows j ne (λ e. omega arith),
         z .rows (innerRows + j) (λ e. omega arith) (λ e. ne (omega arith)),
       ) refl) in
@@ -224,74 +227,69 @@ module _ (w b : List ℕ) where
         state = rw (areas-kept w w′ low, rows, threads, high lengthsAt (omega arith), high (lengthsAt + 1) (omega arith), high (lengthsAt + 2) (omega arith), high takenAt (omega arith)) refl;
       }
 
-  -- an entry goes on a stack at a place, with the innermost scope as of it
-  pub state-push : (t k n v i : ℕ) → t < threadCount → k < rowBytes → Shaped w b
-      → Holds (putLen w t n) (putInner (putEntry b t k v) t k i)
+  -- its words are read back, and every other is kept
+  module _ (t : ℕ) (x : ThreadWords) (lt : t < threadCount) (e : length w ≡ wordCount) where
+    kind-written : threadRecord (putThread w t x) t .kind ≡ x .kind
+    kind-written =
+        getD-set-other (set w (threadIndex t) (x .kind)) (threadIndex t + 1) (threadIndex t) (x .len) 0 (λ q. omega arith)
+        ∙ getD-set-same w (threadIndex t) (x .kind) 0 (omega arith)
+
+    len-written : threadRecord (putThread w t x) t .len ≡ x .len
+    len-written =
+        getD-set-same (set w (threadIndex t) (x .kind)) (threadIndex t + 1) (x .len) 0 (omega (arith, length-set w (threadIndex t) (x .kind)))
+
+    words-kept : (j : ℕ) → j ≢ threadIndex t → j ≢ threadIndex t + 1 → getD (putThread w t x) j 0 ≡ getD w j 0
+    words-kept j p q =
+        getD-set-other (set w (threadIndex t) (x .kind)) (threadIndex t + 1) j (x .len) 0 q
+        ∙ getD-set-other w (threadIndex t) j (x .kind) 0 p
+
+  -- a thread gets another kind or length
+  pub state-thread : (t : ℕ) (x : ThreadWords) → t < threadCount → Shaped w b
+      → Holds (putThread w t x) b
       (withThread (stateOf w b) t (record {
-        kind = threadAt (stateOf w b) t .kind;
-        len = n;
-        entries = set (threadAt (stateOf w b) t .entries) k v;
-        inner = set (threadAt (stateOf w b) t .inner) k i;
+        kind = x .kind;
+        len = x .len;
+        entries = threadAt (stateOf w b) t .entries;
+        inner = threadAt (stateOf w b) t .inner;
       }))
   unfolding threadOf
-  state-push t k n v i lt lk z =
-      let c : List ℕ = putEntry b t k v in
-      let p : RowWritten b c t (set (byteRow b t) k v) = byte-written b (z .bytes) t (omega arith) k v lk in
-      let q : RowWritten c (putInner c t k i) (innerRows + t) (set (byteRow c (innerRows + t)) k i) = byte-written c (p .long) (innerRows + t) (omega arith) k i lk in
-      let zw : length w ≡ wordCount = z .words in
-      rw (thread-read w b t lt) (thread-laid (putLen w t n) (putInner c t k i) t _ lt z (record {
+  state-thread t x lt z =
+      rw (thread-read w b t lt) (thread-laid (putThread w t x) b t _ lt z (record {
+        here = rw (kind-written t x lt (z .words), len-written t x lt (z .words)) refl;
+        words = words-kept t x lt (z .words);
+        rows = λ m e f. refl;
+        long = simp length-set (z .words);
+        wide = z .bytes;
+      }))
+
+  -- an entry goes on its stack at a place, too
+  pub state-push : (t k : ℕ) (x : ThreadWords) (y : Entry) → t < threadCount → k < rowBytes → Shaped w b
+      → Holds (putThread w t x) (putEntry b t k y)
+      (withThread (stateOf w b) t (record {
+        kind = x .kind;
+        len = x .len;
+        entries = set (threadAt (stateOf w b) t .entries) k (y .area);
+        inner = set (threadAt (stateOf w b) t .inner) k (y .inner);
+      }))
+  unfolding threadOf
+  state-push t k x y lt lk z =
+      let c : List ℕ = putByte b t k (y .area) in
+      let p : RowWritten b c t (set (byteRow b t) k (y .area)) = byte-written b (z .bytes) t (omega arith) k (y .area) lk in
+      let q : RowWritten c (putEntry b t k y) (innerRows + t) (set (byteRow c (innerRows + t)) k (y .inner))
+      = byte-written c (p .long) (innerRows + t) (omega arith) k (y .inner) lk in
+      rw (thread-read w b t lt) (thread-laid (putThread w t x) (putEntry b t k y) t _ lt z (record {
         here = rw (
-          getD-set-other w (lenIndex t) (kindIndex t) n 0 (λ e. omega arith),
-          getD-set-same w (lenIndex t) n 0 (omega arith),
+          kind-written t x lt (z .words),
+          len-written t x lt (z .words),
           q .others t (λ e. omega arith),
           p .here,
           q .here,
           p .others (innerRows + t) (λ e. omega arith),
         ) refl;
-        words = λ j e f. getD-set-other w (lenIndex t) j n 0 f;
+        words = words-kept t x lt (z .words);
         rows = λ m e f. q .others m f ∙ p .others m e;
         long = simp length-set (z .words);
         wide = q .long;
-      }))
-
-  -- a stack gets another length
-  pub state-len : (t n : ℕ) → t < threadCount → Shaped w b
-      → Holds (putLen w t n) b
-      (withThread (stateOf w b) t (record {
-        kind = threadAt (stateOf w b) t .kind;
-        len = n;
-        entries = threadAt (stateOf w b) t .entries;
-        inner = threadAt (stateOf w b) t .inner;
-      }))
-  unfolding threadOf
-  state-len t n lt z =
-      let zw : length w ≡ wordCount = z .words in
-      rw (thread-read w b t lt) (thread-laid (putLen w t n) b t _ lt z (record {
-        here = rw (getD-set-other w (lenIndex t) (kindIndex t) n 0 (λ e. omega arith), getD-set-same w (lenIndex t) n 0 (omega arith)) refl;
-        words = λ j e f. getD-set-other w (lenIndex t) j n 0 f;
-        rows = λ m e f. refl;
-        long = simp length-set (z .words);
-        wide = z .bytes;
-      }))
-
-  -- a thread gets another kind
-  pub state-kind : (t n : ℕ) → t < threadCount → Shaped w b
-      → Holds (putKind w t n) b
-      (withThread (stateOf w b) t (record {
-        kind = n;
-        len = threadAt (stateOf w b) t .len;
-        entries = threadAt (stateOf w b) t .entries;
-        inner = threadAt (stateOf w b) t .inner;
-      }))
-  unfolding threadOf
-  state-kind t n lt z =
-      let zw : length w ≡ wordCount = z .words in
-      rw (thread-read w b t lt) (thread-laid (putKind w t n) b t _ lt z (record {
-        here = rw (getD-set-same w (kindIndex t) n 0 (omega arith), getD-set-other w (kindIndex t) (lenIndex t) n 0 (λ e. omega arith)) refl;
-        words = λ j e f. getD-set-other w (kindIndex t) j n 0 e;
-        rows = λ m e f. refl;
-        long = simp length-set (z .words);
-        wide = z .bytes;
       }))
 
   -- ---- the lengths and the number of scratch words taken are written
@@ -366,10 +364,10 @@ module _ {w b w′ b′ : List ℕ} (z : Shaped w b) (z′ : Shaped w′ b′) (
       low : j < threadsAt → getD w j 0 ≡ getD w′ j 0
       low h = area-word z j h ∙ ap (λ (s : State). getD (spaced (areaAt s (j / areaWords))) (j % areaWords) 0) e ∙ sym (area-word z′ j h)
 
-      kind : (t : ℕ) → t < threadCount → j ≡ kindIndex t → getD w j 0 ≡ getD w′ j 0
+      kind : (t : ℕ) → t < threadCount → j ≡ threadIndex t → getD w j 0 ≡ getD w′ j 0
       kind t h q = rw q (ap (λ (x : Thread). x .kind) (thread-same t h))
 
-      len : (t : ℕ) → t < threadCount → j ≡ lenIndex t → getD w j 0 ≡ getD w′ j 0
+      len : (t : ℕ) → t < threadCount → j ≡ threadIndex t + 1 → getD w j 0 ≡ getD w′ j 0
       len t h q = rw q (ap (λ (x : Thread). x .len) (thread-same t h))
 
       middle : threadsAt ≤ j → j < lengthsAt → getD w j 0 ≡ getD w′ j 0

@@ -2,7 +2,6 @@
 use crate::Bytes;
 use crate::DISPLAY_ROWS;
 use crate::ROW_BYTES;
-use crate::row;
 use layout::display::Depth;
 use layout::display::Row;
 ghost use mathlib.Core.Path.{_≡_};
@@ -15,10 +14,11 @@ pub fn row_at(bytes: &Bytes, a: usize) -> Row
     requires { ⌜ a < areaCount ⌝ }
     ensures { λ r. ⌜ r ≡ displayRow (now (bytes .entry)) a ⌝ }
 {
+    let at = (DISPLAY_ROWS + a) * ROW_BYTES;
     let mut row = [0u8; ROW_BYTES];
     let mut i = 0;
     while i < ROW_BYTES {
-        row[i] = row::byte_at(bytes, DISPLAY_ROWS + a, i);
+        row[i] = bytes[at + i];
         i += 1;
     }
     row
@@ -28,9 +28,10 @@ pub fn put_row(bytes: &mut Bytes, a: usize, row: Row)
     requires { ⌜ a < areaCount ⌝ }
     ensures { λ r. ⌜ now (bytes .exit) ≡ putRow (now (bytes .entry)) a row ⌝ }
 {
+    let at = (DISPLAY_ROWS + a) * ROW_BYTES;
     let mut i = 0;
     while i < ROW_BYTES {
-        row::put_byte(bytes, DISPLAY_ROWS + a, i, row[i]);
+        bytes[at + i] = row[i];
         i += 1;
     }
 }

@@ -7,7 +7,6 @@
 mod area; // area.rt: areas
 mod displays; // displays.rt: the displays of areas
 mod lengths; // lengths.rt: the lengths of set-up, and the scratch words taken
-mod row; // row.rt: one byte of a row
 mod thread; // thread.rt: kinds and stacks
 
 pub use area::area_at;
@@ -20,14 +19,12 @@ pub use lengths::lengths_at;
 pub use lengths::put_lengths;
 pub use lengths::put_taken;
 pub use lengths::taken_at;
+pub use thread::Entry;
+pub use thread::ThreadWords;
 pub use thread::entry_at;
-pub use thread::inner_at;
-pub use thread::kind_at;
-pub use thread::len_at;
 pub use thread::put_entry;
-pub use thread::put_inner;
-pub use thread::put_kind;
-pub use thread::put_len;
+pub use thread::put_thread;
+pub use thread::thread_at;
 
 // ---- the words
 

@@ -1,71 +1,63 @@
-// A thread: its kind, the length of its stack, the entries, and beside each entry the innermost scope
-// as of it.
+// A thread: its kind, the length of its stack and its entries, each with the innermost scope as of it.
 use crate::Bytes;
 use crate::INNER_ROWS;
+use crate::ROW_BYTES;
 use crate::THREAD_WORDS;
 use crate::THREADS_AT;
 use crate::Words;
-use crate::row;
 use layout::stack::Place;
 ghost use mathlib.Core.Path.{_≡_};
 ghost use Prim.Native.Nat.{_<_};
-ghost use Rattle.tables.specs.Decode.{threadCount, rowBytes, kindOf, putKind, lenOf, putLen, entryOf, putEntry, innerOf, putInner};
+ghost use Rattle.tables.specs.Decode.{threadCount, rowBytes, threadRecord, putThread, entryRecord, putEntry};
 
-// 0 where the thread is not started.
-pub fn kind_at(words: &Words, t: usize) -> u64
+// The words of a thread: its kind, 0 where it is not started, and how many entries its stack has.
+pub struct ThreadWords {
+    pub kind: u64,
+    pub len: u64,
+}
+
+pub fn thread_at(words: &Words, t: usize) -> ThreadWords
     requires { ⌜ t < threadCount ⌝ }
-    ensures { λ r. ⌜ r ≡ kindOf (now (words .entry)) t ⌝ }
+    ensures { λ r. ⌜ r ≡ threadRecord (now (words .entry)) t ⌝ }
 {
-    words[THREADS_AT + t * THREAD_WORDS]
+    let i = THREADS_AT + t * THREAD_WORDS;
+    ThreadWords {
+        kind: words[i],
+        len: words[i + 1],
+    }
 }
 
-pub fn put_kind(words: &mut Words, t: usize, kind: u64)
+pub fn put_thread(words: &mut Words, t: usize, x: ThreadWords)
     requires { ⌜ t < threadCount ⌝ }
-    ensures { λ r. ⌜ now (words .exit) ≡ putKind (now (words .entry)) t kind ⌝ }
+    ensures { λ r. ⌜ now (words .exit) ≡ putThread (now (words .entry)) t x ⌝ }
 {
-    words[THREADS_AT + t * THREAD_WORDS] = kind;
+    let i = THREADS_AT + t * THREAD_WORDS;
+    words[i] = x.kind;
+    words[i + 1] = x.len;
 }
 
-// How many entries the stack has.
-pub fn len_at(words: &Words, t: usize) -> u64
-    requires { ⌜ t < threadCount ⌝ }
-    ensures { λ r. ⌜ r ≡ lenOf (now (words .entry)) t ⌝ }
-{
-    words[THREADS_AT + 1 + t * THREAD_WORDS]
+// An entry of a stack: its area, and the innermost scope as of it, 0 for none.
+pub struct Entry {
+    pub area: u8,
+    pub inner: u8,
 }
 
-pub fn put_len(words: &mut Words, t: usize, n: u64)
-    requires { ⌜ t < threadCount ⌝ }
-    ensures { λ r. ⌜ now (words .exit) ≡ putLen (now (words .entry)) t n ⌝ }
-{
-    words[THREADS_AT + 1 + t * THREAD_WORDS] = n;
-}
-
-// The area of an entry, and the innermost scope as of it.
-pub fn entry_at(bytes: &Bytes, t: usize, place: Place) -> u8
+pub fn entry_at(bytes: &Bytes, t: usize, place: Place) -> Entry
     requires { ⌜ (t < threadCount) × (place .0 < rowBytes) ⌝ }
-    ensures { λ r. ⌜ r ≡ entryOf (now (bytes .entry)) t (place .0) ⌝ }
+    ensures { λ r. ⌜ r ≡ entryRecord (now (bytes .entry)) t (place .0) ⌝ }
 {
-    row::byte_at(bytes, t, place.0)
+    let k = place.0;
+    Entry {
+        area: bytes[t * ROW_BYTES + k],
+        inner: bytes[(INNER_ROWS + t) * ROW_BYTES + k],
+    }
 }
 
-pub fn put_entry(bytes: &mut Bytes, t: usize, place: Place, area: u8)
+pub fn put_entry(bytes: &mut Bytes, t: usize, place: Place, x: Entry)
     requires { ⌜ (t < threadCount) × (place .0 < rowBytes) ⌝ }
-    ensures { λ r. ⌜ now (bytes .exit) ≡ putEntry (now (bytes .entry)) t (place .0) area ⌝ }
+    ensures { λ r. ⌜ now (bytes .exit) ≡ putEntry (now (bytes .entry)) t (place .0) x ⌝ }
 {
-    row::put_byte(bytes, t, place.0, area);
-}
-
-pub fn inner_at(bytes: &Bytes, t: usize, place: Place) -> u8
-    requires { ⌜ (t < threadCount) × (place .0 < rowBytes) ⌝ }
-    ensures { λ r. ⌜ r ≡ innerOf (now (bytes .entry)) t (place .0) ⌝ }
-{
-    row::byte_at(bytes, INNER_ROWS + t, place.0)
-}
-
-pub fn put_inner(bytes: &mut Bytes, t: usize, place: Place, area: u8)
-    requires { ⌜ (t < threadCount) × (place .0 < rowBytes) ⌝ }
-    ensures { λ r. ⌜ now (bytes .exit) ≡ putInner (now (bytes .entry)) t (place .0) area ⌝ }
-{
-    row::put_byte(bytes, INNER_ROWS + t, place.0, area);
+    let k = place.0;
+    bytes[t * ROW_BYTES + k] = x.area;
+    bytes[(INNER_ROWS + t) * ROW_BYTES + k] = x.inner;
 }

@@ -7,11 +7,12 @@ use mathlib.Core.Path.{_≡_, sym}
 use Rattle.rights.specs.Rights.{classOf, allows}
 use Rattle.rights.specs.declared.Right.{Right}
 use Rattle.model.specs.Checks.{hasRight}
-use Rattle.tables.specs.Decode.{stateOf, kindOf}
+use Rattle.tables.specs.declared.thread.ThreadWords.{ThreadWords}
+use Rattle.tables.specs.Decode.{stateOf, threadRecord}
 use Rattle.tables.specs.Laws.{kind-read}
 
--- n is a thread's kind, z what the table says for it and an area
-pub right-read : (w b : List ℕ) (t a : ℕ) (r : Right) → t < 16 → {z : Bool} {n : ℕ} → z ≡ allows n (classOf a) r → n ≡ kindOf w t
+-- x are the words of a thread, z what the table says for its kind and an area
+pub right-read : (w b : List ℕ) (t a : ℕ) (r : Right) → t < 16 → {z : Bool} {x : ThreadWords} → z ≡ allows (x .kind) (classOf a) r → x ≡ threadRecord w t
     → hasRight (stateOf w b) t r a ≡ z
 unfolding hasRight
-right-read w b t a r h e k = rw (kind-read w b t h, ← k) (sym e)
+right-read w b t a r h e k = rw (kind-read w b t h k) (sym e)

@@ -7,13 +7,14 @@ use Prim.Native.Nat.{ℕ, _≤_, _<_}
 use native.Mathlib.Omega.{arith}
 use borrow.Author.Tests.{le-leb, lt-leb, lt-ltb, le-ltb}
 use Rattle.layout.specs.Choice.{refuse, hit, skip}
-use Rattle.model.specs.State.{State, threadAt}
+use Rattle.model.specs.State.{State, threadAt, withKind, withThread}
 use Rattle.model.specs.Checks.{called}
 use Rattle.model.specs.Threads.{startRest, startState, startChange, endRest, endState, endChange}
 use Rattle.model.proofs.Accepted.{Called, start-ok, end-ok}
 use Rattle.model.proofs.KeepsThreads.{good-start, good-end}
-use Rattle.tables.specs.Decode.{stateOf, putKind}
-use Rattle.tables.specs.Laws.{state-kind}
+use Rattle.tables.specs.declared.thread.ThreadWords.{ThreadWords}
+use Rattle.tables.specs.Decode.{stateOf, threadRecord, putThread, Shaped, Holds}
+use Rattle.tables.specs.Laws.{len-read, state-thread}
 use Rattle.tables.specs.Contract.{Ready, Changed}
 use Rattle.tables.specs.AnsweredLaws.{changed-accepted}
 use Rattle.threads.specs.Caller.{thread-refused, called-rest}
@@ -63,16 +64,21 @@ module _ (s : State) (t : ℕ) where
 
 -- ---- what is left
 
--- a thread's kind is written, where n is what the check answers
-module _ (w b : List ℕ) (y : Ready w b) (t : ℕ) where
-  pub started-on : (p : ℕ) {n : ℕ} → n ≡ startRest (stateOf w b) t p → n ≡ 0 → Changed w b (startChange (stateOf w b) t p) n 0 (putKind w t p) b
-  unfolding startState
-  started-on p e z =
-      let ok = start-ok (stateOf w b) t p (sym e ∙ z) in
-      rw z (changed-accepted w b (startChange (stateOf w b) t p) y e z refl (state-kind w b t p (ok .thread) (y .sized)) (good-start (stateOf w b) t p (y .good) ok))
+-- a thread's kind is written, with its length as it was
+pub kind-holds : (w b : List ℕ) → Shaped w b → (t p : ℕ) {x : ThreadWords} → t < 16 → x ≡ threadRecord w t
+    → Holds (putThread w t (record { kind = p; len = x .len })) b (withThread (stateOf w b) t (withKind (threadAt (stateOf w b) t) p))
+kind-holds w b z t p h e = rw (len-read w b t h e) (state-thread w b t _ h z)
 
-  pub ended-on : {n : ℕ} → n ≡ endRest (stateOf w b) t → n ≡ 0 → Changed w b (endChange (stateOf w b) t) n 0 (putKind w t 0) b
+-- n is what the check answers, v the words that are left
+module _ (w b : List ℕ) (y : Ready w b) (t : ℕ) {n : ℕ} {v : List ℕ} where
+  pub started-on : (p : ℕ) → n ≡ startRest (stateOf w b) t p → n ≡ 0
+      → Holds v b (withThread (stateOf w b) t (withKind (threadAt (stateOf w b) t) p)) → Changed w b (startChange (stateOf w b) t p) n 0 v b
+  unfolding startState
+  started-on p e z k =
+      rw z (changed-accepted w b (startChange (stateOf w b) t p) y e z refl k (good-start (stateOf w b) t p (y .good) (start-ok (stateOf w b) t p (sym e ∙ z))))
+
+  pub ended-on : n ≡ endRest (stateOf w b) t → n ≡ 0
+      → Holds v b (withThread (stateOf w b) t (withKind (threadAt (stateOf w b) t) 0)) → Changed w b (endChange (stateOf w b) t) n 0 v b
   unfolding endState
-  ended-on e z =
-      let ok = end-ok (stateOf w b) t (sym e ∙ z) in
-      rw z (changed-accepted w b (endChange (stateOf w b) t) y e z refl (state-kind w b t 0 (ok .called .thread) (y .sized)) (good-end (stateOf w b) t (y .good) ok))
+  ended-on e z k =
+      rw z (changed-accepted w b (endChange (stateOf w b) t) y e z refl k (good-end (stateOf w b) t (y .good) (end-ok (stateOf w b) t (sym e ∙ z))))

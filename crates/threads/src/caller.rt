@@ -32,7 +32,7 @@ pub fn check_thread(words: &Words, bytes: &Bytes, t: u64) -> u64
     if 16 <= t {
         return 2; // above 15
     }
-    if tables::kind_at(words, t as usize) == 0 {
+    if tables::thread_at(words, t as usize).kind == 0 {
         return 2; // not started
     }
     0

@@ -2,15 +2,14 @@
 // of its stack by one look; ops 01 and 02.
 mod caller; // caller.rt: refusals 1 and 2
 mod right; // right.rt: a thread's rights
-mod stack; // stack.rt: a thread's current area and innermost scope
+mod stack; // stack.rt: the top of a stack
 mod thread; // thread.rt: ops 01 and 02
 
 pub use caller::check_caller;
 pub use caller::check_thread;
 pub use caller::lengths_fit;
 pub use right::has_right;
-pub use stack::current_area;
-pub use stack::innermost_scope;
+pub use stack::top_entry;
 pub use thread::end;
 pub use thread::end_on;
 pub use thread::start;

@@ -12,6 +12,6 @@ pub fn has_right(words: &Words, bytes: &Bytes, t: usize, right: Right, area: u64
     requires { ⌜ t < 16 ⌝ }
     ensures { λ r. ⌜ r ≡ hasRight (before words bytes) t right area ⌝ }
 {
-    let kind = tables::kind_at(words, t);
+    let kind = tables::thread_at(words, t).kind;
     rights::allowed_in(kind, area, right)
 }

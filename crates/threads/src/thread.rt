@@ -2,11 +2,24 @@
 use crate::caller;
 use layout::answer::Answer;
 use tables::Bytes;
+use tables::ThreadWords;
 use tables::Words;
 ghost use mathlib.Core.Path.{_≡_};
+ghost use Prim.Native.Nat.{_<_};
+ghost use Rattle.model.specs.State.{threadAt, withKind, withThread};
 ghost use Rattle.model.specs.Threads.{startRest, startChange, endRest, endChange};
 ghost use Rattle.model.specs.Calls as calls;
-ghost use Rattle.tables.specs.Contract.{before, Usable, Changes, Answers};
+ghost use Rattle.tables.specs.Decode.{Shaped};
+ghost use Rattle.tables.specs.Contract.{before, Leaves, Usable, Changes, Answers};
+
+// Another kind of a thread, whose stack stays as it is.
+fn put_kind(words: &mut Words, bytes: &Bytes, t: usize, kind: u64)
+    requires { ⌜ Shaped (now words) (now bytes) × (t < 16) ⌝ }
+    ensures { λ u. ⌜ Leaves words bytes (withThread (before words bytes) t (withKind (threadAt (before words bytes) t) kind)) ⌝ }
+{
+    let len = tables::thread_at(words, t).len;
+    tables::put_thread(words, t, ThreadWords { kind, len });
+}
 
 // ---- op 01, start thread
 
@@ -16,7 +29,7 @@ fn check_start(words: &Words, bytes: &Bytes, t: u64, kind: u64) -> u64
     if 16 <= t {
         return 2;
     }
-    let own = tables::kind_at(words, t as usize);
+    let own = tables::thread_at(words, t as usize).kind;
     if own != 0 {
         return 3;
     }
@@ -36,7 +49,7 @@ pub fn start_on(words: &mut Words, bytes: &Bytes, t: u64, kind: u64) -> Answer
 {
     let status = check_start(words, bytes, t, kind);
     if status == 0 {
-        tables::put_kind(words, t as usize, kind);
+        put_kind(words, bytes, t as usize, kind);
     }
     Answer { status, value: 0 }
 }
@@ -72,7 +85,7 @@ fn check_end(words: &Words, bytes: &Bytes, t: u64) -> u64
     if refusal != 0 {
         return refusal;
     }
-    if 0 < tables::len_at(words, t as usize) {
+    if 0 < tables::thread_at(words, t as usize).len {
         return 11;
     }
     0
@@ -85,7 +98,7 @@ pub fn end_on(words: &mut Words, bytes: &Bytes, t: u64) -> Answer
 {
     let refusal = check_end(words, bytes, t);
     if refusal == 0 {
-        tables::put_kind(words, t as usize, 0);
+        put_kind(words, bytes, t as usize, 0);
     }
     let value = 0; // none is named
     Answer {

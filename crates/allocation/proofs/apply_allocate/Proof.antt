@@ -1,11 +1,13 @@
 -- `apply_allocate` meets its contract: the object's words and bits lie in the current area, which has room for them.
-use mathlib.Core.Path.{_≡_, sym, _∙_}
+use mathlib.Core.Path.{_≡_, ap, sym, _∙_}
 use Prim.Native.Nat.{_+_, _≤_, _<_}
 use native.Mathlib.Omega.{arith}
 use borrow.Author.Needs.{needs}
 use denote.Ref.{now}
 use Rattle.model.specs.State.{State, Memory, areaAt}
+use Rattle.model.specs.Objects.{currentAt}
 use Rattle.model.proofs.Accepted.{AllocateOk, allocate-ok}
+use Rattle.tables.specs.declared.thread.Entry.{Entry}
 use Rattle.tables.specs.Laws.{area-read}
 use Rattle.tables.specs.Contract.{stateIn, memoryIn}
 use Rattle.allocation.specs.Allocation.{area-low, words-low, words-in, bit-sum, bits-in, bits-low, allocated}
@@ -14,7 +16,7 @@ use Rattle.allocation.proofs.apply_allocate.Tie as tie
 
 -- the area is read: the entry, the state and the memory
 abbrev start : tie.After-area-at → tie.Start
-start c = c .before .before .before .before .before .before .before
+start c = c .before .before .before .before .before .before .before .before
 
 abbrev state : tie.After-area-at → State
 state c = stateIn (start c .args .words) (start c .args .bytes)
@@ -25,17 +27,20 @@ memory c = memoryIn (start c .args .permanent) (start c .args .scratch) (start c
 ok : (c : tie.After-area-at) → AllocateOk (state c) (start c .args .t) (start c .args .slots) (start c .args .data-words)
 ok c = allocate-ok (state c) (start c .args .t) (start c .args .slots) (start c .args .data-words) (start c .pre .1)
 
-low : (c : tie.After-area-at-arg) → c .before .current-area .result < 64
-low c =
-    let i = c .before .before .before .before .before .before in
-    area-low (now (i .args .words)) (now (i .args .bytes)) _ _ _ _ (i .pre .0 .0) (i .pre .0 .1) (allocate-ok _ _ _ _ (i .pre .1)) _ (c .before .current-area .ensures)
+top : (c : tie.After-area-at) → c .before .before .before .top-entry .result .area ≡ currentAt (state c) (start c .args .t)
+top c = ap (λ (x : Entry). x .area) (c .before .before .before .top-entry .ensures)
 
-area : (c : tie.After-area-at) → c .area-at .result ≡ areaAt (state c) (c .before .before .current-area .result)
+low : (c : tie.After-area-at-arg) → c .before .before .top-entry .result .area < 64
+low c =
+    let i = c .before .before .before .before .before .before .before in
+    area-low (now (i .args .words)) (now (i .args .bytes)) _ _ _ _ (i .pre .0 .0) (i .pre .0 .1) (allocate-ok _ _ _ _ (i .pre .1)) _ (ap (λ (x : Entry). x .area) (c .before .before .top-entry .ensures))
+
+area : (c : tie.After-area-at) → c .area-at .result ≡ areaAt (state c) (c .before .before .before .top-entry .result .area)
 area c = c .area-at .ensures ∙ sym (area-read (now (start c .args .words)) (now (start c .args .bytes)) _ (low (c .before)))
 
 -- the object ends within the words that a handle can name
 fits : (c : tie.After-area-at) → c .area-at .result .start + c .area-at .result .used + 1 + start c .args .slots + start c .args .data-words ≤ 16384
-fits c = words-low (now (start c .args .words)) (now (start c .args .bytes)) (memory c) _ _ _ (start c .pre .0 .0) (start c .pre .0 .1) (ok c) _ (c .before .before .current-area .ensures) _ (area c)
+fits c = words-low (now (start c .args .words)) (now (start c .args .bytes)) (memory c) _ _ _ (start c .pre .0 .0) (start c .pre .0 .1) (ok c) _ (top c) _ (area c)
 
 -- the area as it was read, from what comes later: the area is written, its bit found, its bits and its words written
 abbrev read : tie.After-put-area → tie.After-area-at
@@ -47,8 +52,8 @@ found c = read (c .before .before)
 abbrev marked : tie.After-mark-object → tie.After-bit-index
 marked c = c .before .before
 
-current-area-requires : tie.Need-current-area-requires
-current-area-requires c κs =
+top-entry-requires : tie.Need-top-entry-requires
+top-entry-requires c κs =
     let i = c .before .before .before .before in
     (i .pre .0 .0, allocate-ok _ _ _ _ (i .pre .1) .called .thread)
 
@@ -76,7 +81,7 @@ add-at c = omega (arith, fits (read (c .before)))
 bit-index-requires : tie.Need-bit-index-requires
 bit-index-requires c κs =
     let d = read (c .before) in
-    bit-sum (now (start d .args .words)) (now (start d .args .bytes)) (memory d) _ _ _ (start d .pre .0 .0) (start d .pre .0 .1) (ok d) _ (d .before .before .current-area .ensures) _ (area d)
+    bit-sum (now (start d .args .words)) (now (start d .args .bytes)) (memory d) _ _ _ (start d .pre .0 .0) (start d .pre .0 .1) (ok d) _ (top d) _ (area d)
 
 add-mark-object : tie.Need-add-mark-object
 add-mark-object c = omega (arith, fits (found (c .before)))
@@ -84,14 +89,14 @@ add-mark-object c = omega (arith, fits (found (c .before)))
 mark-object-requires : tie.Need-mark-object-requires
 mark-object-requires c κs =
     let d = found (c .before) in (
-      bits-in (now (start d .args .words)) (now (start d .args .bytes)) (memory d) _ _ _ (start d .pre .0 .0) (start d .pre .0 .1) (ok d) _ (d .before .before .current-area .ensures) _ (area d) _ (c .before .bit-index .ensures),
-      bits-low (now (start d .args .words)) (now (start d .args .bytes)) (memory d) _ _ _ (start d .pre .0 .0) (start d .pre .0 .1) (ok d) _ (d .before .before .current-area .ensures) _ (area d) _ (c .before .bit-index .ensures),
+      bits-in (now (start d .args .words)) (now (start d .args .bytes)) (memory d) _ _ _ (start d .pre .0 .0) (start d .pre .0 .1) (ok d) _ (top d) _ (area d) _ (c .before .bit-index .ensures),
+      bits-low (now (start d .args .words)) (now (start d .args .bytes)) (memory d) _ _ _ (start d .pre .0 .0) (start d .pre .0 .1) (ok d) _ (top d) _ (area d) _ (c .before .bit-index .ensures),
     )
 
 put-object-requires : tie.Need-put-object-requires
 put-object-requires c κs =
     let d = found (marked (c .before .before .before .before)) in (
-      words-in (now (start d .args .words)) (now (start d .args .bytes)) (memory d) _ _ _ (start d .pre .0 .0) (start d .pre .0 .1) (ok d) _ (d .before .before .current-area .ensures) _ (area d),
+      words-in (now (start d .args .words)) (now (start d .args .bytes)) (memory d) _ _ _ (start d .pre .0 .0) (start d .pre .0 .1) (ok d) _ (top d) _ (area d),
       fits d,
     )
 
@@ -115,14 +120,14 @@ returns c =
     let p = b .before .before in
     let d = read p in
     rw (p .put-area .ensures)
-    (allocated (now (start d .args .words)) (now (start d .args .bytes)) (memory d) _ _ _ (start d .pre .0 .0) (start d .pre .0 .1) (ok d) _ (d .before .before .current-area .ensures) _ (area d) _ (b .bit-index .ensures)
+    (allocated (now (start d .args .words)) (now (start d .args .bytes)) (memory d) _ _ _ (start d .pre .0 .0) (start d .pre .0 .1) (ok d) _ (top d) _ (area d) _ (b .bit-index .ensures)
     (m .mark-object .ensures) (l .put-object .ensures) (c .pack .ensures))
 
 pub apply-allocate-spec : {M : Type 1} → statement M
 apply-allocate-spec =
     tie.close
     (tie.spec
-    current-area-requires
+    top-entry-requires
     cast-area
     area-at-requires
     add-used

@@ -11,6 +11,7 @@ use Rattle.model.specs.State.{State, areaAt}
 use Rattle.model.specs.Checks.{hasRight}
 use Rattle.model.specs.Objects.{currentAt}
 use Rattle.model.proofs.Accepted.{Called}
+use Rattle.tables.specs.declared.thread.Entry.{Entry}
 use Rattle.tables.specs.Laws.{area-read}
 use Rattle.tables.specs.Contract.{stateIn}
 use Rattle.threads.specs.Caller.{thread-called}
@@ -30,27 +31,30 @@ called : (c : tie.Else1) → Called (state c) (start c .args .t)
 called c = thread-called (state c) (start c .args .t) (c .before .check-thread .ensures) (c .if1 .left)
 
 -- what is read
-low : (c : tie.After-current-area) → c .current-area .result < 64
-low c = rw (c .current-area .ensures) (current-area (state (c .before)) (start (c .before) .pre .good) (start (c .before) .args .t) (called (c .before) .thread))
+top : (c : tie.After-top-entry) → c .top-entry .result .area ≡ currentAt (state (c .before)) (start (c .before) .args .t)
+top c = ap (λ (x : Entry). x .area) (c .top-entry .ensures)
+
+low : (c : tie.After-top-entry) → c .top-entry .result .area < 64
+low c = rw (top c) (current-area (state (c .before)) (start (c .before) .pre .good) (start (c .before) .args .t) (called (c .before) .thread))
 
 right : (c : tie.After-has-right) → hasRight (state (c .before .before)) (start (c .before .before) .args .t) Allocate (currentAt (state (c .before .before)) (start (c .before .before) .args .t)) ≡ c .has-right .result
 right c =
     let d = c .before .before in
-    ap (hasRight (state d) (start d .args .t) Allocate) (sym (c .before .current-area .ensures)) ∙ sym (c .has-right .ensures)
+    ap (hasRight (state d) (start d .args .t) Allocate) (sym (top (c .before))) ∙ sym (c .has-right .ensures)
 
 area : (c : tie.After-area-at) → c .area-at .result ≡ areaAt (state (c .before .before .before)) (currentAt (state (c .before .before .before)) (start (c .before .before .before) .args .t))
 area c = c .area-at .ensures
     ∙ sym (area-read (now (start (c .before .before .before) .args .words)) (now (start (c .before .before .before) .args .bytes)) _ (low (c .before .before)))
-    ∙ ap (areaAt (state (c .before .before .before))) (c .before .before .current-area .ensures)
+    ∙ ap (areaAt (state (c .before .before .before))) (top (c .before .before))
 
 used : (c : tie.After-area-at) → c .area-at .result .used ≤ c .area-at .result .size
-used c = rw (area c) (start (c .before .before .before) .pre .good .placed .used _ (rw (c .before .before .current-area .ensures) at (low (c .before .before))))
+used c = rw (area c) (start (c .before .before .before) .pre .good .placed .used _ (rw (top (c .before .before)) at (low (c .before .before))))
 
 returns : tie.Need-returns
 returns c = allocate-not-called _ _ _ _ (c .before .check-thread .ensures) (c .if1 .taken)
 
-current-area-requires : tie.Need-current-area-requires
-current-area-requires c κs = (start c .pre, called c .thread)
+top-entry-requires : tie.Need-top-entry-requires
+top-entry-requires c κs = (start c .pre, called c .thread)
 
 has-right-requires : tie.Need-has-right-requires
 has-right-requires c κs = called (c .before) .thread
@@ -95,7 +99,7 @@ check-allocate-spec =
     (tie.spec
     (search needs)
     returns
-    current-area-requires
+    top-entry-requires
     (λ c. search needs)
     has-right-requires
     cast-area-at

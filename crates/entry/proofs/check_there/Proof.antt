@@ -10,7 +10,7 @@ returns c =
     let o = c .before .before .before .before in
     let a = o .args in
     there-read (now (a .words)) (now (a .bytes)) (a .t) (a .q) (a .inner) (o .pre .0) (o .pre .1)
-    (c .before .before .before .has-right .ensures) (c .before .before .len-at .ensures) (c .before .area-at .ensures) (c .check-entry .ensures)
+    (c .before .before .before .has-right .ensures) (c .before .before .thread-at .ensures) (c .before .area-at .ensures) (c .check-entry .ensures)
 
 pub check-there-spec : {M : Type 1} → statement M
 check-there-spec =

@@ -7,6 +7,7 @@ use Rattle.model.specs.State.{State}
 use Rattle.model.specs.Scopes.{enterRest}
 use Rattle.model.proofs.Accepted.{Called, enter-ok}
 use Rattle.model.proofs.KeepsEnter.{good-enter}
+use Rattle.tables.specs.declared.thread.Entry.{Entry}
 use Rattle.tables.specs.Contract.{stateIn}
 use Rattle.tables.specs.AnsweredLaws.{changed-refused, changed-accepted}
 use Rattle.threads.specs.Caller.{thread-called}
@@ -33,7 +34,7 @@ checked c =
     let d = past c .before in
     let a = start d .args in
     c .check-there .ensures
-    ∙ ap (λ (p : ℕ). thereRest (state d) (a .t) (a .q) p) (c .before .before .before .innermost-scope .ensures)
+    ∙ ap (λ (p : ℕ). thereRest (state d) (a .t) (a .q) p) (ap (λ (x : Entry). x .inner) (c .before .before .before .top-entry .ensures))
     ∙ enter-entry (state d) (a .t) (a .q) (called d) (past c .if2 .left)
 
 returns : tie.Need-returns
@@ -46,8 +47,8 @@ returns-2 c =
     let a = start d .args in
     changed-refused _ _ _ (start d .pre) (enter-no-area (state d) (a .t) (a .q) (called d) (c .if2 .taken)) (λ z. omega arith)
 
-innermost-scope-requires : tie.Need-innermost-scope-requires
-innermost-scope-requires c κs =
+top-entry-requires : tie.Need-top-entry-requires
+top-entry-requires c κs =
     let d = c .before .before .before in
     (start d .pre, called d .thread)
 
@@ -66,7 +67,7 @@ apply-enter-requires c κs =
     let a = start d .args in (
       start d .pre,
       enterable (state d) (a .t) (a .q) (start d .pre .good) (checked k) (c .before .before .if3 .left),
-      k .before .before .before .innermost-scope .ensures,
+      ap (λ (x : Entry). x .inner) (k .before .before .before .top-entry .ensures),
     )
 
 returns-4 : tie.Need-returns-4
@@ -85,7 +86,7 @@ enter-on-spec =
     (λ c κs. search needs)
     returns
     returns-2
-    innermost-scope-requires
+    top-entry-requires
     check-there-requires
     returns-3
     apply-enter-requires

@@ -1,17 +1,13 @@
 -- `exit::apply_exit` meets its contract. Assumes nothing.
 use denote.Ref.{now}
+use mathlib.Core.Path.{ap}
 use borrow.Author.Needs.{needs}
+use Rattle.tables.specs.declared.thread.Entry.{Entry}
 use Rattle.tables.specs.Decode.{stateOf}
 use Rattle.model.proofs.Bounds.{current-area, current-open}
 use Rattle.exit.specs.Exit.{left-some, exited-holds, exited-value}
 use Rattle.exit.proofs.apply_exit.Statement.{statement}
 use Rattle.exit.proofs.apply_exit.Tie as tie
-
-current-area-requires : tie.Need-current-area-requires
-current-area-requires c κs = search needs
-
-cast-leave-area : tie.Need-cast-leave-area
-cast-leave-area c = search needs
 
 leave-area-requires : tie.Need-leave-area-requires
 leave-area-requires c κs =
@@ -19,7 +15,8 @@ leave-area-requires c κs =
     let a = o .args in
     let s = stateOf (now (a .words)) (now (a .bytes)) in
     let g = o .pre .0 .good in
-    (o .pre .0 .sized, rw (c .before .current-area .ensures) (current-area s g (a .t) (o .pre .1)), rw (c .before .current-area .ensures) (current-open s g (a .t) (o .pre .1)))
+    let q = ap (λ (x : Entry). x .area) (c .before .top-entry .ensures) in
+    (o .pre .0 .sized, rw q (current-area s g (a .t) (o .pre .1)), rw q (current-open s g (a .t) (o .pre .1)))
 
 pop-requires : tie.Need-pop-requires
 pop-requires c κs =
@@ -31,11 +28,11 @@ pop-requires c κs =
 returns : tie.Need-returns
 returns c =
     let a = c .before .before .before .before .before .before .args in
-    let q = c .before .before .before .before .current-area .ensures in
+    let q = ap (λ (x : Entry). x .area) (c .before .before .before .before .top-entry .ensures) in
     let o = c .before .before .leave-area .ensures in
     (exited-value (stateOf (now (a .words)) (now (a .bytes))) (a .t) _ _ q (o .0), exited-holds (now (a .words)) (now (a .bytes)) _ _ (a .t) _ q (o .1) (c .pop .ensures))
 
 pub apply-exit-spec : {M : Type 1} → statement M
 apply-exit-spec =
     tie.close
-    (tie.spec current-area-requires cast-leave-area leave-area-requires pop-requires returns)
+    (tie.spec (λ c κs. search needs) (λ c. search needs) leave-area-requires pop-requires returns)

@@ -13,20 +13,20 @@ use Rattle.exit.proofs.check_exit.Tie as tie
 returns : tie.Need-returns
 returns c = exit-not-called _ _ (c .before .check-thread .ensures) (c .if1 .taken)
 
-len-at-requires : tie.Need-len-at-requires
-len-at-requires c κs = thread-called _ _ (c .before .check-thread .ensures) (c .if1 .left) .thread
+thread-at-requires : tie.Need-thread-at-requires
+thread-at-requires c κs = thread-called _ _ (c .before .check-thread .ensures) (c .if1 .left) .thread
 
 returns-2 : tie.Need-returns-2
 returns-2 c =
-    let a = c .before .before .before .before .args in
-    let k : Called (stateIn (a .words) (a .bytes)) (a .t) = thread-called _ _ (c .before .before .before .check-thread .ensures) (c .before .before .if1 .left) in
-    exit-empty _ _ k (len-read (now (a .words)) (now (a .bytes)) (a .t) (k .thread) ∙ sym (c .before .len-at .ensures) ∙ c .if2 .taken)
+    let a = c .before .before .before .before .before .args in
+    let k : Called (stateIn (a .words) (a .bytes)) (a .t) = thread-called _ _ (c .before .before .before .before .check-thread .ensures) (c .before .before .before .if1 .left) in
+    exit-empty _ _ k (len-read (now (a .words)) (now (a .bytes)) (a .t) (k .thread) (c .before .before .thread-at .ensures) ∙ c .if2 .taken)
 
 returns-3 : tie.Need-returns-3
 returns-3 c =
-    let a = c .before .before .before .before .args in
-    let k : Called (stateIn (a .words) (a .bytes)) (a .t) = thread-called _ _ (c .before .before .before .check-thread .ensures) (c .before .before .if1 .left) in
-    exit-accepted _ _ k (λ z. c .if2 .left (sym (len-read (now (a .words)) (now (a .bytes)) (a .t) (k .thread) ∙ sym (c .before .len-at .ensures)) ∙ z))
+    let a = c .before .before .before .before .before .args in
+    let k : Called (stateIn (a .words) (a .bytes)) (a .t) = thread-called _ _ (c .before .before .before .before .check-thread .ensures) (c .before .before .before .if1 .left) in
+    exit-accepted _ _ k (λ z. c .if2 .left (sym (len-read (now (a .words)) (now (a .bytes)) (a .t) (k .thread) (c .before .before .thread-at .ensures)) ∙ z))
 
 pub check-exit-spec : {M : Type 1} → statement M
-check-exit-spec = tie.close (tie.spec (search needs) returns len-at-requires returns-2 returns-3)
+check-exit-spec = tie.close (tie.spec (search needs) returns thread-at-requires returns-2 returns-3)

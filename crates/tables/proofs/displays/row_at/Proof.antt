@@ -6,33 +6,18 @@ use denote.Ref.{now}
 use lib.ListN.{length, getD, length-set}
 use borrow.Author.Needs.{needs}
 use Rattle.tables.specs.Cut.{read-more, read-all}
-use Rattle.tables.specs.Decode.{rowBytes, rowIndex, displayRows, byteOf, byteRow, displayRow}
+use Rattle.tables.specs.Decode.{rowBytes, rowIndex, displayRows, byteRow, displayRow}
 use Rattle.tables.proofs.displays.row_at.Statement.{statement}
 use Rattle.tables.proofs.displays.row_at.Tie as tie
 
 abbrev Inv-loop : tie.InvT-loop
-Inv-loop bytes a row₀ i₀ row i = (i ≤ rowBytes) × (length row ≡ rowBytes) × ((k : ℕ) → k < i → getD row k 0 ≡ byteOf bytes (displayRows + a) k)
+Inv-loop bytes a at row₀ i₀ row i = (i ≤ rowBytes) × (length row ≡ rowBytes) × ((k : ℕ) → k < i → getD row k 0 ≡ getD bytes (at + k) 0)
 
 abbrev μ-loop : tie.MeasureT-loop
-μ-loop bytes a row₀ i₀ row i = rowBytes - i
+μ-loop bytes a at row₀ i₀ row i = rowBytes - i
 
 loop-holds : tie.Need-loop-holds Inv-loop μ-loop
 loop-holds c = (search needs, search needs, λ k h. absurd (omega arith))
-
-add-byte-at : tie.Need-add-byte-at Inv-loop μ-loop
-add-byte-at c = search needs
-
-byte-at-requires : tie.Need-byte-at-requires Inv-loop μ-loop
-byte-at-requires c κs = search needs
-
-array-write-row : tie.Need-array-write-row Inv-loop μ-loop
-array-write-row c = search needs
-
-add-i : tie.Need-add-i Inv-loop μ-loop
-add-i c = search needs
-
-loop-less : tie.Need-loop-less Inv-loop μ-loop
-loop-less c = search needs
 
 loop-again : tie.Need-loop-again Inv-loop μ-loop
 loop-again c =
@@ -40,7 +25,7 @@ loop-again c =
     let i = c .before .before .loop .i in
     let a = c .before .before .before .args in
     let r = c .before .before .loop .row in
-    (search needs, length-set r i (c .byte-at .result) ∙ v .1, rw (c .byte-at .ensures) (read-more r (now (a .bytes)) (rowIndex (displayRows + a .a)) i (omega arith) (v .2)))
+    (search needs, length-set r i _ ∙ v .1, read-more r (now (a .bytes)) (rowIndex (displayRows + a .a)) i (omega arith) (v .2))
 
 returns : tie.Need-returns Inv-loop μ-loop
 unfolding displayRow byteRow
@@ -56,11 +41,9 @@ row-at-spec =
     (tie.spec
     Inv-loop
     μ-loop
+    (λ c. search needs) (λ c. search needs)
     loop-holds
-    add-byte-at
-    byte-at-requires
-    array-write-row
-    add-i
-    loop-less
+    (λ c. search needs) (λ c. search needs) (λ c. search needs) (λ c. search needs)
+    (λ c. search needs)
     loop-again
     returns)

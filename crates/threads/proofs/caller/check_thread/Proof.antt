@@ -13,14 +13,14 @@ returns c = no-thread _ _ 0 (search needs)
 
 returns-2 : tie.Need-returns-2
 returns-2 c =
-    let a = c .before .before .before .args in
-    let k = kind-read (now (a .words)) (now (a .bytes)) (a .t) (search needs) ∙ sym (c .before .kind-at .ensures) in
+    let a = c .before .before .before .before .args in
+    let k = kind-read (now (a .words)) (now (a .bytes)) (a .t) (search needs) (c .before .before .thread-at .ensures) in
     not-started (stateIn (a .words) (a .bytes)) (a .t) 0 (search needs) (k ∙ c .if2 .taken)
 
 returns-3 : tie.Need-returns-3
 returns-3 c =
-    let a = c .before .before .before .args in
-    let k = kind-read (now (a .words)) (now (a .bytes)) (a .t) (search needs) ∙ sym (c .before .kind-at .ensures) in
+    let a = c .before .before .before .before .args in
+    let k = kind-read (now (a .words)) (now (a .bytes)) (a .t) (search needs) (c .before .before .thread-at .ensures) in
     started (stateIn (a .words) (a .bytes)) (a .t) 0 (search needs) (λ z. c .if2 .left (sym k ∙ z))
 
 pub check-thread-spec : {M : Type 1} → statement M

@@ -9,7 +9,7 @@ use Rattle.threads.proofs.right.has_right.Tie as tie
 returns : tie.Need-returns
 returns c =
     let d = c .before .before in
-    sym (right-read (now (d .args .words)) (now (d .args .bytes)) (d .args .t) (d .args .area) (d .args .right) (d .pre) (c .allowed-in .ensures) (c .before .kind-at .ensures))
+    sym (right-read (now (d .args .words)) (now (d .args .bytes)) (d .args .t) (d .args .area) (d .args .right) (d .pre) (c .allowed-in .ensures) (c .before .thread-at .ensures))
 
 pub has-right-spec : {M : Type 1} → statement M
 has-right-spec = tie.close (tie.spec (search needs) (search needs) returns)

@@ -14,25 +14,25 @@ returns c = start-no-thread _ _ _ (search needs)
 returns-2 : tie.Need-returns-2
 returns-2 c =
     let a = c .before .before .before .args in
-    let k = kind-read (now (a .words)) (now (a .bytes)) (a .t) (search needs) ∙ sym (c .before .kind-at .ensures) in
+    let k = kind-read (now (a .words)) (now (a .bytes)) (a .t) (search needs) (c .before .thread-at .ensures) in
     start-started (stateIn (a .words) (a .bytes)) (a .t) (a .kind) (search needs) (λ z. c .if2 .taken (sym k ∙ z))
 
 returns-3 : tie.Need-returns-3
 returns-3 c =
     let a = c .before .before .before .before .args in
-    let k = kind-read (now (a .words)) (now (a .bytes)) (a .t) (search needs) ∙ sym (c .before .before .kind-at .ensures) in
+    let k = kind-read (now (a .words)) (now (a .bytes)) (a .t) (search needs) (c .before .before .thread-at .ensures) in
     start-no-kind (stateIn (a .words) (a .bytes)) (a .t) (a .kind) (search needs) (k ∙ c .before .if2 .left) (search needs)
 
 returns-4 : tie.Need-returns-4
 returns-4 c =
     let a = c .before .before .before .before .before .args in
-    let k = kind-read (now (a .words)) (now (a .bytes)) (a .t) (search needs) ∙ sym (c .before .before .before .kind-at .ensures) in
+    let k = kind-read (now (a .words)) (now (a .bytes)) (a .t) (search needs) (c .before .before .before .thread-at .ensures) in
     start-other-kind (stateIn (a .words) (a .bytes)) (a .t) (a .kind) (search needs) (k ∙ c .before .before .if2 .left) (search needs) (search needs)
 
 returns-5 : tie.Need-returns-5
 returns-5 c =
     let a = c .before .before .before .before .before .args in
-    let k = kind-read (now (a .words)) (now (a .bytes)) (a .t) (search needs) ∙ sym (c .before .before .before .kind-at .ensures) in
+    let k = kind-read (now (a .words)) (now (a .bytes)) (a .t) (search needs) (c .before .before .before .thread-at .ensures) in
     start-accepted (stateIn (a .words) (a .bytes)) (a .t) (a .kind) (search needs) (k ∙ c .before .before .if2 .left) (search needs) (search needs)
 
 pub check-start-spec : {M : Type 1} → statement M

@@ -9,13 +9,14 @@ use Rattle.threads.proofs.thread.end_on.Statement.{statement}
 use Rattle.threads.proofs.thread.end_on.Tie as tie
 
 put-kind-requires : tie.Need-put-kind-requires
-put-kind-requires c κs = end-ok _ _ (sym (c .before .before .check-end .ensures) ∙ c .before .if1 .taken) .called .thread
+put-kind-requires c κs =
+    (c .before .before .before .before .pre .sized, end-ok _ _ (sym (c .before .before .check-end .ensures) ∙ c .before .if1 .taken) .called .thread)
 
 returns : tie.Need-returns
 returns c =
     let o = c .before .before .before .before .before in
     let a = o .args in
-    rw (c .put-kind .ensures) (ended-on (now (a .words)) (now (a .bytes)) (o .pre) (a .t) (c .before .before .before .check-end .ensures) (c .before .before .if1 .taken))
+    ended-on (now (a .words)) (now (a .bytes)) (o .pre) (a .t) (c .before .before .before .check-end .ensures) (c .before .before .if1 .taken) (c .put-kind .ensures)
 
 returns-2 : tie.Need-returns-2
 returns-2 c = changed-refused _ _ _ (c .before .before .before .pre) (c .before .check-end .ensures) (c .if1 .left)

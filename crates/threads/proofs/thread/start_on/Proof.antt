@@ -9,13 +9,14 @@ use Rattle.threads.proofs.thread.start_on.Statement.{statement}
 use Rattle.threads.proofs.thread.start_on.Tie as tie
 
 put-kind-requires : tie.Need-put-kind-requires
-put-kind-requires c κs = start-ok _ _ _ (sym (c .before .before .check-start .ensures) ∙ c .before .if1 .taken) .thread
+put-kind-requires c κs =
+    (c .before .before .before .before .pre .sized, start-ok _ _ _ (sym (c .before .before .check-start .ensures) ∙ c .before .if1 .taken) .thread)
 
 returns : tie.Need-returns
 returns c =
     let o = c .before .before .before .before .before in
     let a = o .args in
-    rw (c .put-kind .ensures) (started-on (now (a .words)) (now (a .bytes)) (o .pre) (a .t) (a .kind) (c .before .before .before .check-start .ensures) (c .before .before .if1 .taken))
+    started-on (now (a .words)) (now (a .bytes)) (o .pre) (a .t) (a .kind) (c .before .before .before .check-start .ensures) (c .before .before .if1 .taken) (c .put-kind .ensures)
 
 returns-2 : tie.Need-returns-2
 returns-2 c = changed-refused _ _ _ (c .before .before .before .pre) (c .before .check-start .ensures) (c .if1 .left)
