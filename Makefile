@@ -12,7 +12,7 @@ test:
 	@scripts/test
 
 prove:
-	@rt check
+	@scripts/in-memory rt check
 
 # The core for C and Rust: target/include/scopes.h and target/lib/libscopes.a.
 lib:
