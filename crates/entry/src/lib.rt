@@ -135,16 +135,17 @@ fn inner_after(q: u8, p: u8) -> u8
     p
 }
 
-// Area q goes on top of a stack, and beside it the innermost scope as of that entry.
+// Area q goes on top of a stack, and beside it the innermost scope as of that entry. The length is written
+// before the entry: the compiler then sees that the kind is as it was read.
 fn push(words: &mut Words, bytes: &mut Bytes, t: usize, q: u8, inner: u8)
     requires { ⌜ Shaped (now words) (now bytes) × (t < 16) × (threadAt (stateIn words bytes) t .len < 32) ⌝ }
     ensures { λ u. ⌜ Leaves words bytes (pushedState (before words bytes) t q inner) ⌝ }
 {
     let h = tables::thread_at(words, t);
-    let top = Place(h.len as usize);
-    tables::put_entry(bytes, t, top, Entry { area: q, inner });
     let len = h.len + 1;
     tables::put_thread(words, t, ThreadWords { kind: h.kind, len });
+    let top = Place(h.len as usize);
+    tables::put_entry(bytes, t, top, Entry { area: q, inner });
 }
 
 // ---- the call

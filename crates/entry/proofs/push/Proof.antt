@@ -15,19 +15,21 @@ room c =
     let a = o .args in
     omega (arith, o .pre .2, len-read (now (a .words)) (now (a .bytes)) (a .t) (o .pre .1) (c .thread-at .ensures))
 
-put-entry-requires : tie.Need-put-entry-requires
-put-entry-requires c κs = (c .before .before .before .pre .1, room (c .before))
-
 add-len : tie.Need-add-len
-add-len c = omega (arith, room (c .before .before .before))
+add-len c = omega (arith, room (c .before))
+
+put-entry-requires : tie.Need-put-entry-requires
+put-entry-requires c κs =
+    let r = c .before .before .before .before in
+    (r .before .before .pre .1, room r)
 
 returns : tie.Need-returns
 returns c =
     let r = c .before .before .before .before .before in
     let o = r .before .before in
     let a = o .args in
-    rw (c .put-thread .ensures, c .before .before .before .put-entry .ensures)
+    rw (c .before .before .put-thread .ensures, c .put-entry .ensures)
     (pushed-holds (now (a .words)) (now (a .bytes)) (o .pre .0) (a .t) (a .q) (a .inner) (o .pre .1) (r .thread-at .ensures) (room r))
 
 pub push-spec : {M : Type 1} → statement M
-push-spec = tie.close (tie.spec (λ c κs. search needs) put-entry-requires add-len (λ c κs. search needs) returns)
+push-spec = tie.close (tie.spec (λ c κs. search needs) add-len (λ c κs. search needs) put-entry-requires returns)
