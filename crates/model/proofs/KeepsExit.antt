@@ -24,10 +24,10 @@ use Rattle.model.proofs.Bounds.{current-area, current-open}
 use Rattle.model.proofs.Alters.{exit-is-low, exit-is-scope, by-top, exit-stays, exit-rows, left-alters, exit-others}
 
 -- a scope that is left and stays open, and one that is left for the last time
-abbrev pub lowered : Area → Area
+abbrev lowered : Area → Area
 lowered x = withCount x (pred (x .count))
 
-abbrev pub shut : Area → Area
+abbrev shut : Area → Area
 shut x = withParent (withUsed (lowered x) 0) 0 0
 
 left-more : (x : Area) → 1 < x .count → left x ≡ lowered x
