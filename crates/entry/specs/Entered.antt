@@ -75,7 +75,7 @@ pushed-holds w b z t q i n h e k =
 
 -- the area, then the stack
 module _ (s : State) (q p : ℕ) where
-  pub entered-threads : (t : ℕ) → threadAt (enteredArea s q p) t ≡ threadAt s t
+  entered-threads : (t : ℕ) → threadAt (enteredArea s q p) t ≡ threadAt s t
   unfolding enteredArea withArea withRow
   entered-threads t =
       cases (leb 2 q)

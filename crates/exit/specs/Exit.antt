@@ -78,7 +78,7 @@ popped-holds w b z t n h e =
     rw (l, d) (state-len w b t (pred n) h z)
 
 module _ (s : State) (q : ℕ) where
-  pub left-threads : (t : ℕ) → threadAt (leftArea s q) t ≡ threadAt s t
+  left-threads : (t : ℕ) → threadAt (leftArea s q) t ≡ threadAt s t
   unfolding leftArea withArea
   left-threads t = cases (leb 2 q) (λ e. rw e refl) (λ e. rw e refl)
 

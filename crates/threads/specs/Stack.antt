@@ -19,19 +19,19 @@ unfolding down
 down-none l n e = ap (down l) e
 
 module _ (h : Thread) where
-  pub current-none : h .len ≡ 0 → current (entriesOf h) ≡ 0
+  current-none : h .len ≡ 0 → current (entriesOf h) ≡ 0
   unfolding entriesOf
   current-none e = ap current (down-none (h .entries) (h .len) e)
 
-  pub inner-none : h .len ≡ 0 → innermost (entriesOf h) ≡ 0
+  inner-none : h .len ≡ 0 → innermost (entriesOf h) ≡ 0
   unfolding entriesOf innermost
   inner-none e = ap innermost (down-none (h .entries) (h .len) e)
 
-  pub current-top : (n : ℕ) → h .len ≡ suc n → current (entriesOf h) ≡ getD (h .entries) n 0
+  current-top : (n : ℕ) → h .len ≡ suc n → current (entriesOf h) ≡ getD (h .entries) n 0
   unfolding entriesOf down
   current-top n e = ap (λ (k : ℕ). current (down (h .entries) k)) e
 
-  pub inner-top : ThreadGood h → (n : ℕ) → h .len ≡ suc n → innermost (entriesOf h) ≡ getD (h .inner) n 0
+  inner-top : ThreadGood h → (n : ℕ) → h .len ≡ suc n → innermost (entriesOf h) ≡ getD (h .inner) n 0
   unfolding entriesOf
   inner-top g n e = ap (λ (k : ℕ). innermost (down (h .entries) k)) e ∙ sym (g .inner-is n (omega arith))
 
