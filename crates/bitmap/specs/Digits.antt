@@ -17,7 +17,7 @@ pub one-shl : (k : ℕ) → k < 64 → 1 * 2 ^ k % 2 ^ 64 ≡ 2 ^ k
 one-shl k h = rw one-mul (mod-eq-of-lt (pow-lt h))
 
 -- `x & 1 << k`
-pub and-pow : (x k : ℕ) → bitAnd x (2 ^ k) ≡ digit x k * 2 ^ k
+and-pow : (x k : ℕ) → bitAnd x (2 ^ k) ≡ digit x k * 2 ^ k
 and-pow x k =
     let e : 2 ^ (1 + k) - 2 ^ k ≡ 2 ^ k = rw one-add (omega (arith, twice k)) in
     rw e at (and-high x 1 k)
@@ -101,7 +101,7 @@ without-other x (suc k) (suc j) h =
     digit-suc (withoutDigit x (suc k)) j ∙ rw (without-half x k) (without-other (x / 2) k j (λ e. h (ap suc e))) ∙ sym (digit-suc x j)
 
 -- the n digits of x from digit k on; x without them
-abbrev pub digits : ℕ → ℕ → ℕ → ℕ
+abbrev digits : ℕ → ℕ → ℕ → ℕ
 digits x k n = x / 2 ^ k % 2 ^ n
 
 unfoldable pub withoutDigits : ℕ → ℕ → ℕ → ℕ

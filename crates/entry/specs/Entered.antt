@@ -74,7 +74,7 @@ pushed-holds w b z t q i {x} h e k = rw (kind-read w b t h e, len-read w b t h e
 
 -- the area, then the stack
 module _ (s : State) (q p : ℕ) where
-  pub entered-threads : (t : ℕ) → threadAt (enteredArea s q p) t ≡ threadAt s t
+  entered-threads : (t : ℕ) → threadAt (enteredArea s q p) t ≡ threadAt s t
   unfolding enteredArea withArea withRow
   entered-threads t =
       cases (leb 2 q)

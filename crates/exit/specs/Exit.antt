@@ -77,7 +77,7 @@ unfolding popped
 popped-holds w b z t {x} h e = rw (kind-read w b t h e, len-read w b t h e, sub-one (x .len)) (state-thread w b t _ h z)
 
 module _ (s : State) (q : ℕ) where
-  pub left-threads : (t : ℕ) → threadAt (leftArea s q) t ≡ threadAt s t
+  left-threads : (t : ℕ) → threadAt (leftArea s q) t ≡ threadAt s t
   unfolding leftArea withArea
   left-threads t = cases (leb 2 q) (λ e. rw e refl) (λ e. rw e refl)
 

@@ -27,7 +27,7 @@ sets-before (b ∷ s) l i j a h =
 
 -- ---- digits
 
-pub length-digits : (v n : ℕ) → length (digitsOf v n) ≡ n
+length-digits : (v n : ℕ) → length (digitsOf v n) ≡ n
 unfolding digitsOf
 length-digits v zero = refl
 length-digits v (suc n) = ap suc (length-digits v n)

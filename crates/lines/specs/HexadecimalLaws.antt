@@ -55,7 +55,7 @@ pub high-value : (b : ℕ) → 57 < b → b - 87 ≡ digitValue b
 unfolding digitValue
 high-value b h = simp (lt-leb b 57 h)
 
-pub value-small : (b : ℕ) → isDigit b ≡ true → digitValue b < 16
+value-small : (b : ℕ) → isDigit b ≡ true → digitValue b < 16
 value-small b e =
     ⊎-elim (λ h. omega (arith, low-value b (h .1), h .0)) (λ h. omega (arith, high-value b (omega (arith, h .0)), h .0, h .1)) (digit-is b e)
 
@@ -80,7 +80,7 @@ spoilt l i h e f = sym (sym e ∙ one-more l i h ∙ rw f refl)
 pub passed : (l : List ℕ) (i : ℕ) → i < length l → allDigits (drop i l) ≡ allDigits l → isDigit (getD l i 0) ≡ true → allDigits (drop (i + 1) l) ≡ allDigits l
 passed l i h e f = rw add-one (sym (one-more l i h ∙ rw f refl) ∙ e)
 
-pub digit-at : (l : List ℕ) (i : ℕ) → allDigits l ≡ true → i < length l → isDigit (getD l i 0) ≡ true
+digit-at : (l : List ℕ) (i : ℕ) → allDigits l ≡ true → i < length l → isDigit (getD l i 0) ≡ true
 unfolding allDigits
 digit-at [] i e h = absurd (omega arith)
 digit-at (b ∷ l) zero e h = and-true (isDigit b) (allDigits l) e .0

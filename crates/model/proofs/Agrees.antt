@@ -1,15 +1,15 @@
 -- The history follows the state: set-up leaves both alike, and so does every accepted call.
 -- Assumes nothing.
-use Prim.Native.Nat.{ℕ, suc, _+_, _≤_, _<_}
+use Prim.Native.Nat.{ℕ, suc, _≤_, _<_}
 use mathlib.Core.Bool.{Bool, true, false}
 use mathlib.Core.List.{List, [], _∷_}
 use mathlib.Core.Path.{_≡_, refl, sym, ap, _∙_}
 use mathlib.Core.Logic.{_≢_}
 use lib.ListN.{length, getD, set, replicate, length-replicate, getD-replicate, List·getD-eq-default}
-use lib.Dec.{eqb, leb, ltb}
+use lib.Dec.{eqb, ltb}
 use native.Mathlib.Omega.{arith}
 use lib.Seq.{set-getD}
-use borrow.Author.Tests.{eqb-true, eqb-false, eq-eqb, ne-eqb, ltb-true, ltb-false, leb-true, leb-false, le-leb, lt-leb, lt-ltb}
+use borrow.Author.Tests.{eqb-true, eqb-false, eq-eqb, ne-eqb, ltb-true, ltb-false, le-leb, lt-leb, lt-ltb}
 use Rattle.layout.specs.Choice.{cases}
 use Rattle.model.specs.declared.Area.{Area}
 use Rattle.model.specs.declared.Lengths.{Lengths}
@@ -17,8 +17,8 @@ use Rattle.model.specs.State.{Thread, State, Memory, noThread, areaAt, t
 use Rattle.model.specs.SetUp.{newThread, firstState}
 use Rattle.model.specs.Checks.{isStarted}
 use Rattle.model.specs.Threads.{startState, endState}
-use Rattle.model.specs.Scopes.{madeArea, makeState, pushed, enterState, popped, exitState}
-use Rattle.model.specs.Objects.{currentAt, grown, allocateState}
+use Rattle.model.specs.Scopes.{makeState, pushed, enterState, popped, exitState}
+use Rattle.model.specs.Objects.{currentAt, allocateState}
 use Rattle.model.specs.Calls.{Call, start, end, make, enter, exit, allocate, store, write, asks, callStatus, callState}
 use Rattle.model.specs.History.{Object, History, blank, threadRow, occurrences, total, historyStart, historyEnter, historyExit, historyAllocate, historyStep}
 use Rattle.model.specs.Invariant.{parentIn, stacksIn, Good}
@@ -26,10 +26,10 @@ use Rattle.model.proofs.Accepted.{fitted-ok, start-ok, end-ok, make-ok,
 use Rattle.model.proofs.Lists.{total-set, occ-same}
 use Rattle.model.proofs.Memory.{put-same, put-other}
 use Rattle.model.proofs.Sound.{Same}
-use Rattle.model.proofs.Parts.{thread-same, thread-other, stack-is, parts-of, number-kept}
+use Rattle.model.proofs.Parts.{thread-same, thread-other, stack-is}
 use Rattle.model.proofs.Stacks.{stack-none}
 use Rattle.model.proofs.Bounds.{by-area, current-area}
-use Rattle.model.proofs.Alters.{enter-stays, open-alters, fresh-alters, enter-others, by-left, exit-stays, exit-others}
+use Rattle.model.proofs.Alters.{same-field, make-alters, allocate-alters, enter-stays, open-alters, fresh-alters, enter-others, by-left, exit-stays, exit-others}
 use Rattle.model.proofs.KeepsThreads.{kind-stacks, idle-empty}
 use Rattle.model.proofs.KeepsEnter.{enter-thread, enter-thread-other, enter-stacks}
 use Rattle.model.proofs.KeepsExit.{exit-thread, exit-thread-other, top-area, exit-more-area, exit-last-area, pop-is, exit-stacks}
@@ -184,7 +184,7 @@ unfolding makeState withTaken withArea
 same-make s t q r g ok b e = record {
   started = e .started;
   rows = e .rows;
-  parents = λ a. number-kept s (parts-of s g) q (madeArea (areaAt s q) (s .taken) r) (ok .area) (λ (x : Area). x .parent) refl a ∙ e .parents a;
+  parents = λ a. same-field (make-alters s (g .areas) q (ok .area) r) (λ (x : Area). x .parent) refl a ∙ e .parents a;
 }
 
 same-allocate : (s : State) (t slots dataWords : ℕ) → Good s → AllocateOk s t slots dataWords → (b : History) (o : Object) → Same s b
@@ -193,8 +193,7 @@ unfolding allocateState withArea historyAllocate
 same-allocate s t slots dataWords g ok b o e = record {
   started = e .started;
   rows = e .rows;
-  parents = λ a. number-kept s (parts-of s g) (currentAt s t) (grown (areaAt s (currentAt s t)) (suc (areaAt s (currentAt s t) .used + slots + dataWords)))
-      (current-area s g t (ok .called .thread)) (λ (x : Area). x .parent) refl a ∙ e .parents a;
+  parents = λ a. same-field (allocate-alters s (g .areas) (currentAt s t) (current-area s g t (ok .called .thread)) slots dataWords) (λ (x : Area). x .parent) refl a ∙ e .parents a;
 }
 
 -- ---- any accepted call

@@ -40,11 +40,11 @@ none-on a = refl
 
 module _ (h i : ℕ) (n : Lengths) where
   -- an accepted set-up has passed these
-  pub record SetUpOk : Type 0 where
-    pub whole : h + i ≡ n .permanent
-    pub permanent : n .permanent ≤ 16384
-    pub scratch : n .scratch ≤ 16384
-    pub map : n .map ≡ (n .permanent + n .scratch + 63) / 64
+  record SetUpOk : Type 0 where
+    whole : h + i ≡ n .permanent
+    permanent : n .permanent ≤ 16384
+    scratch : n .scratch ≤ 16384
+    map : n .map ≡ (n .permanent + n .scratch + 63) / 64
 
   set-up-ok : setUpStatus h i n ≡ 0 → SetUpOk
   unfolding setUpStatus

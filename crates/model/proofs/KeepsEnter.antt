@@ -14,11 +14,11 @@ use Rattle.layout.specs.StackLaws.{length-down, down-push}
 use Rattle.model.specs.declared.Area.{Area}
 use Rattle.model.specs.State.{Thread, State, noThread, areaAt, rowAt, threadAt, withArea, withRow, withThread, entriesOf, stackAt, innermost, isMade, displayAt}
 use Rattle.model.specs.Scopes.{reentered, pushed, enterState}
-use Rattle.model.specs.Invariant.{branchOf, Nesting, ThreadGood, ScopeGood, parentIn, countIn, stacksIn, Good}
+use Rattle.model.specs.Invariant.{branchOf, ThreadGood, ScopeGood, stacksIn, NestingIn, GoodWith, Good}
 use Rattle.model.proofs.Accepted.{EnterOk}
 use Rattle.model.proofs.Lists.{scopes-order, order-length, map-set}
 use Rattle.model.proofs.Nesting.{enter-low, enter-open, enter-fresh}
-use Rattle.model.proofs.Parts.{thread-same, thread-other, stack-is, inner-is, display-same, Untouched, seen, nesting-same, Parts, parts-of, good-of, parts-thread, parts-row, parts-area}
+use Rattle.model.proofs.Parts.{thread-same, thread-other, stack-is, inner-is, display-same, Untouched, seen, nesting-same, nested-good, good-thread, good-row, good-area}
 use Rattle.model.proofs.Stacks.{length-stack, stack-push, pushed-good}
 use Rattle.model.proofs.Bounds.{by-area, inner-area, inner-display}
 use Rattle.model.proofs.Alters.{Alters, enter-is-low, enter-is-open, freshRow, freshArea, enter-is-fresh, enter-stays, open-rows, fresh-row, open-alters, fresh-alters, enter-others}
@@ -99,10 +99,7 @@ module _ (s : State) (t q : ℕ) (g : Good s) (ok : EnterOk s t q) where
 
   -- ---- the nesting
 
-  abbrev After : Type 0
-  After = Nesting (parentIn (enterState s t q)) (displayAt (enterState s t q)) (countIn (enterState s t q)) (stacksIn (enterState s t q))
-
-  low-nesting : q < 2 → After
+  low-nesting : q < 2 → NestingIn (enterState s t q)
   low-nesting h =
       nesting-same
       (enter-low (g .nesting) t (ok .called .thread) q h)
@@ -110,7 +107,7 @@ module _ (s : State) (t q : ℕ) (g : Good s) (ok : EnterOk s t q) where
       (λ a. ap (λ (x : Area). x .count) (enter-stays s t q h .all a .area))
       enter-stacks
 
-  open-nesting : 2 ≤ q → 0 < areaAt s q .count → After
+  open-nesting : 2 ≤ q → 0 < areaAt s q .count → NestingIn (enterState s t q)
   open-nesting h o = rw enter-stacks
       (enter-open (g .nesting) t (ok .called .thread) q _ _ _ h (ok .area) o (ok .parent h o ∙ inner-is s t)
       (ap (λ (x : Area). x .count) here, λ a ne. ap (λ (x : Area). x .count) (others a ne .area))
@@ -121,7 +118,7 @@ module _ (s : State) (t q : ℕ) (g : Good s) (ok : EnterOk s t q) where
       here : areaAt (enterState s t q) q ≡ reentered (areaAt s q)
       here = open-to h o .here
 
-  fresh-nesting : 2 ≤ q → areaAt s q .count ≡ 0 → After
+  fresh-nesting : 2 ≤ q → areaAt s q .count ≡ 0 → NestingIn (enterState s t q)
   fresh-nesting h z = rw enter-stacks
       (enter-fresh (g .nesting) t (ok .called .thread) q _ _ _ h (ok .area) z
       (ap (λ (x : Area). x .parent) here ∙ inner-is s t)
@@ -134,12 +131,12 @@ module _ (s : State) (t q : ℕ) (g : Good s) (ok : EnterOk s t q) where
 
   -- ---- the whole
 
-  entered-thread : (r : State) → Parts r → Parts (withThread r t (pushed (threadAt s t) q))
-  entered-thread r p = parts-thread r p t (pushed (threadAt s t) q) (pushed-good (threadAt s t) thread q (ok .room) (ok .area) (ok .called .started))
+  entered-thread : (r : State) → GoodWith s r → GoodWith s (withThread r t (pushed (threadAt s t) q))
+  entered-thread r k = good-thread r k t (pushed (threadAt s t) q) (pushed-good (threadAt s t) thread q (ok .room) (ok .area) (ok .called .started))
 
-  open-parts : 2 ≤ q → 0 < areaAt s q .count → Parts (enterState s t q)
-  open-parts h o = rw (enter-is-open s t q h o) (entered-thread (withArea s q (reentered (areaAt s q)))
-      (parts-area s (parts-of s g) q (reentered (areaAt s q)) (ok .area) (λ l. absurd (omega arith)) (λ l. scope)
+  open-good : 2 ≤ q → 0 < areaAt s q .count → GoodWith s (enterState s t q)
+  open-good h o = rw (enter-is-open s t q h o) (entered-thread (withArea s q (reentered (areaAt s q)))
+      (good-area s g q (reentered (areaAt s q)) (ok .area) (λ l. absurd (omega arith)) (λ l. scope)
       (record { start = refl; size = refl; used = g .placed .used q (ok .area) })))
     where
       old : ScopeGood (areaAt s q)
@@ -155,10 +152,10 @@ module _ (s : State) (t q : ℕ) (g : Good s) (ok : EnterOk s t q) where
         no-depth = λ z. absurd (omega arith);
       }
 
-  fresh-parts : 2 ≤ q → areaAt s q .count ≡ 0 → Parts (enterState s t q)
+  fresh-good : 2 ≤ q → areaAt s q .count ≡ 0 → GoodWith s (enterState s t q)
   unfolding withRow
-  fresh-parts h z = rw (enter-is-fresh s t q h z) (entered-thread (withArea (withRow s q row) q (freshArea s t q))
-      (parts-area (withRow s q row) (parts-row s (parts-of s g) q row fresh-length) q (freshArea s t q) (ok .area) (λ l. absurd (omega arith)) (λ l. scope)
+  fresh-good h z = rw (enter-is-fresh s t q h z) (entered-thread (withArea (withRow s q row) q (freshArea s t q))
+      (good-area (withRow s q row) (good-row s g q row fresh-length) q (freshArea s t q) (ok .area) (λ l. absurd (omega arith)) (λ l. scope)
       (record { start = refl; size = refl; used = omega arith })))
     where
       row : List ℕ
@@ -177,6 +174,6 @@ module _ (s : State) (t q : ℕ) (g : Good s) (ok : EnterOk s t q) where
   pub good-enter : Good (enterState s t q)
   good-enter =
       by-area s q
-      (λ h. good-of (enterState s t q) (rw (enter-is-low s t q h) (entered-thread s (parts-of s g))) (low-nesting h))
-      (λ h z. good-of (enterState s t q) (fresh-parts h z) (fresh-nesting h z))
-      (λ h o. good-of (enterState s t q) (open-parts h o) (open-nesting h o))
+      (λ h. nested-good {n = s} (rw (enter-is-low s t q h) (entered-thread s g)) (low-nesting h))
+      (λ h z. nested-good (fresh-good h z) (fresh-nesting h z))
+      (λ h o. nested-good (open-good h o) (open-nesting h o))

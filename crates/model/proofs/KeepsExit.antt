@@ -8,26 +8,26 @@ use mathlib.Core.Logic.{_≢_}
 use lib.ListN.{getD, set}
 use lib.Dec.{leb}
 use native.Mathlib.Omega.{arith}
-use borrow.Author.Tests.{leb-true, leb-false, le-leb, lt-leb}
+use borrow.Author.Tests.{le-leb, lt-leb}
 use Rattle.layout.specs.Choice.{cases}
 use Rattle.model.specs.declared.Area.{Area}
-use Rattle.model.specs.State.{Thread, State, noThread, areaAt, rowAt, threadAt, withUsed, withCount, withParent, withArea, withThread, entriesOf, displayAt}
+use Rattle.model.specs.State.{Thread, State, noThread, areaAt, threadAt, withUsed, withCount, withParent, withArea, withThread, entriesOf, displayAt}
 use Rattle.model.specs.Scopes.{left, popped, exitState}
 use Rattle.model.specs.Objects.{currentAt}
-use Rattle.model.specs.Invariant.{Nesting, ScopeGood, parentIn, countIn, stacksIn, Good}
+use Rattle.model.specs.Invariant.{ScopeGood, parentIn, stacksIn, NestingIn, GoodWith, Good}
 use Rattle.model.proofs.Accepted.{ExitOk}
 use Rattle.model.proofs.Lists.{map-set}
 use Rattle.model.proofs.Nesting.{exit-low, exit-scope}
-use Rattle.model.proofs.Parts.{thread-same, thread-other, stack-is, display-same, Untouched, seen, nesting-same, Parts, parts-of, good-of, parts-thread, parts-area}
+use Rattle.model.proofs.Parts.{thread-same, thread-other, stack-is, display-same, Untouched, seen, nesting-same, nested-good, good-thread, good-area}
 use Rattle.model.proofs.Stacks.{stack-pop, popped-good}
 use Rattle.model.proofs.Bounds.{current-area, current-open}
 use Rattle.model.proofs.Alters.{exit-is-low, exit-is-scope, by-top, exit-stays, exit-rows, left-alters, exit-others}
 
 -- a scope that is left and stays open, and one that is left for the last time
-abbrev pub lowered : Area → Area
+abbrev lowered : Area → Area
 lowered x = withCount x (pred (x .count))
 
-abbrev pub shut : Area → Area
+abbrev shut : Area → Area
 shut x = withParent (withUsed (lowered x) 0) 0 0
 
 left-more : (x : Area) → 1 < x .count → left x ≡ lowered x
@@ -81,10 +81,7 @@ module _ (s : State) (t : ℕ) (g : Good s) (ok : ExitOk s t) where
 
   -- ---- the nesting
 
-  abbrev After : Type 0
-  After = Nesting (parentIn (exitState s t)) (displayAt (exitState s t)) (countIn (exitState s t)) (stacksIn (exitState s t))
-
-  low-nesting : currentAt s t < 2 → After
+  low-nesting : currentAt s t < 2 → NestingIn (exitState s t)
   low-nesting h =
       nesting-same
       (exit-low (g .nesting) t (ok .called .thread) (currentAt s t) _ pop-is h)
@@ -92,7 +89,7 @@ module _ (s : State) (t : ℕ) (g : Good s) (ok : ExitOk s t) where
       (λ a. ap (λ (x : Area). x .count) (exit-stays s t h .all a .area))
       exit-stacks
 
-  scope-nesting : 2 ≤ currentAt s t → After
+  scope-nesting : 2 ≤ currentAt s t → NestingIn (exitState s t)
   scope-nesting h = rw exit-stacks
       (exit-scope (g .nesting) t (ok .called .thread) (currentAt s t) _ pop-is _ _ _ h
       (ap (λ (x : Area). suc (x .count)) (exit-scope-area h) ∙ less, λ a ne. ap (λ (x : Area). x .count) (others a ne .area))
@@ -113,12 +110,12 @@ module _ (s : State) (t : ℕ) (g : Good s) (ok : ExitOk s t) where
 
   -- ---- the whole
 
-  exited-thread : (r : State) → Parts r → Parts (withThread r t (popped (threadAt s t)))
-  exited-thread r p = parts-thread r p t (popped (threadAt s t)) (popped-good (threadAt s t) (g .threads .each t (ok .called .thread)))
+  exited-thread : (r : State) → GoodWith s r → GoodWith s (withThread r t (popped (threadAt s t)))
+  exited-thread r k = good-thread r k t (popped (threadAt s t)) (popped-good (threadAt s t) (g .threads .each t (ok .called .thread)))
 
-  scope-parts : 2 ≤ currentAt s t → Parts (exitState s t)
-  scope-parts h = rw (exit-is-scope s t h) (exited-thread (withArea s (currentAt s t) (left x))
-      (parts-area s (parts-of s g) (currentAt s t) (left x) top-area (λ l. absurd (omega arith)) (λ l. scope)
+  scope-good : 2 ≤ currentAt s t → GoodWith s (exitState s t)
+  scope-good h = rw (exit-is-scope s t h) (exited-thread (withArea s (currentAt s t) (left x))
+      (good-area s g (currentAt s t) (left x) top-area (λ l. absurd (omega arith)) (λ l. scope)
       (record { start = refl; size = refl; used = fits })))
     where
       x : Area
@@ -146,5 +143,5 @@ module _ (s : State) (t : ℕ) (g : Good s) (ok : ExitOk s t) where
   pub good-exit : Good (exitState s t)
   good-exit =
       by-top s t
-      (λ h. good-of (exitState s t) (rw (exit-is-low s t h) (exited-thread s (parts-of s g))) (low-nesting h))
-      (λ h. good-of (exitState s t) (scope-parts h) (scope-nesting h))
+      (λ h. nested-good {n = s} (rw (exit-is-low s t h) (exited-thread s g)) (low-nesting h))
+      (λ h. nested-good (scope-good h) (scope-nesting h))

@@ -5,13 +5,23 @@ use mathlib.Core.Path.{_≡_, refl, sym, ap, _∙_}
 use mathlib.Core.Logic.{_≢_}
 use native.Mathlib.Omega.{arith}
 use Rattle.model.specs.declared.Area.{Area}
-use Rattle.model.specs.State.{State, Memory, areaAt, withArea, withTaken, displayAt}
+use Rattle.model.specs.State.{State, areaAt, rowAt, withArea, withTaken}
 use Rattle.model.specs.Scopes.{madeArea, makeState}
 use Rattle.model.specs.Objects.{currentAt, grown, allocateState}
-use Rattle.model.specs.Invariant.{StandingGood, ScopeGood, Placed, Good}
+use Rattle.model.specs.Invariant.{StandingGood, ScopeGood, Placed, stacksIn, NestingIn, Good}
 use Rattle.model.proofs.Accepted.{MakeOk, AllocateOk}
-use Rattle.model.proofs.Parts.{area-other, parts-of, good-of, area-by, parts-made, parts-area, nesting-area}
+use Rattle.model.proofs.Parts.{area-other, display-same, nesting-same, nested-good, area-by, good-made, good-area}
 use Rattle.model.proofs.Bounds.{current-area, current-open}
+use Rattle.model.proofs.Alters.{Alters, same-field, make-alters, allocate-alters, make-rows, allocate-rows}
+
+-- no row and no stack is touched, and x has the parent, depth and count that the area had
+nesting-altered : {s n : State} {q : ℕ} {x : Area} → Alters s n q x → ((a : ℕ) → rowAt n a ≡ rowAt s a) → stacksIn n ≡ stacksIn s
+    → x .parent ≡ areaAt s q .parent → x .depth ≡ areaAt s q .depth → x .count ≡ areaAt s q .count → NestingIn s → NestingIn n
+nesting-altered {s} {n} to r k e d c v =
+    nesting-same v
+    (λ a. (same-field to (λ (y : Area). y .parent) e a, display-same s n a (same-field to (λ (y : Area). y .depth) d a) (r a)))
+    (same-field to (λ (y : Area). y .count) c)
+    k
 
 -- ---- op 03
 
@@ -41,7 +51,7 @@ module _ (s : State) (t q r : ℕ) (g : Good s) (ok : MakeOk s t q r) where
   }
     where
       each : (P : Area → Type 0) (a : ℕ) → (a ≡ q → P made) → (a ≢ q → P (areaAt s a)) → P (areaAt (withArea s q made) a)
-      each = area-by s (parts-of s g) q made (ok .area)
+      each = area-by s g q made (ok .area)
 
       heap : areaAt (withArea s q made) 0 ≡ areaAt s 0
       heap = area-other s q made 0 (λ e. omega (arith, ok .scope))
@@ -50,10 +60,10 @@ module _ (s : State) (t q r : ℕ) (g : Good s) (ok : MakeOk s t q r) where
       immortal = area-other s q made 1 (λ e. omega (arith, ok .scope))
 
   pub good-make : Good (makeState s q r)
-  unfolding makeState withTaken withArea made displayAt
-  good-make = good-of (makeState s q r)
-      (parts-made s (parts-of s g) q made (ok .area) (λ h. absurd (omega (arith, ok .scope))) (λ h. scope) (s .taken + r) make-placed)
-      (nesting-area s (parts-of s g) q made (ok .area) refl refl refl (g .nesting))
+  unfolding makeState withTaken withArea made
+  good-make = nested-good
+      (good-made s g q made (ok .area) (λ h. absurd (omega (arith, ok .scope))) (λ h. scope) (s .taken + r) make-placed)
+      (nesting-altered (make-alters s (g .areas) q (ok .area) r) (make-rows s q r) refl refl refl refl (g .nesting))
     where
       old : ScopeGood (areaAt s q)
       old = g .scopes q (ok .scope) (ok .area)
@@ -64,10 +74,10 @@ module _ (s : State) (t q r : ℕ) (g : Good s) (ok : MakeOk s t q r) where
 -- ---- op 06
 
 pub good-allocate : (s : State) (t slots dataWords : ℕ) → Good s → AllocateOk s t slots dataWords → Good (allocateState s (currentAt s t) slots dataWords)
-unfolding allocateState
-good-allocate s t slots dataWords g ok = good-of (withArea s a x)
-    (parts-area s (parts-of s g) a x here standing scope (record { start = refl; size = refl; used = ok .room }))
-    (nesting-area s (parts-of s g) a x here refl refl refl (g .nesting))
+unfolding allocateState withArea
+good-allocate s t slots dataWords g ok = nested-good
+    (good-area s g a x here standing scope (record { start = refl; size = refl; used = ok .room }))
+    (nesting-altered (allocate-alters s (g .areas) a here slots dataWords) (allocate-rows s a slots dataWords) refl refl refl refl (g .nesting))
   where
     a : ℕ
     a = currentAt s t

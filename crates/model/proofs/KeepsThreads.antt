@@ -4,11 +4,11 @@ use Prim.Native.Nat.{ℕ, _<_}
 use mathlib.Core.Path.{_≡_, refl}
 use native.Mathlib.Omega.{arith}
 use lib.Seq.{map-set-same}
-use Rattle.model.specs.State.{State, Memory, noThread, threadAt, withKind, withThread, entriesOf, displayAt}
+use Rattle.model.specs.State.{State, noThread, threadAt, withKind, withThread, entriesOf, displayAt}
 use Rattle.model.specs.Threads.{startState, endState}
 use Rattle.model.specs.Invariant.{ThreadGood, stacksIn, Good}
 use Rattle.model.proofs.Accepted.{StartOk, EndOk}
-use Rattle.model.proofs.Parts.{nesting-same, parts-of, good-of, parts-thread}
+use Rattle.model.proofs.Parts.{nesting-same, nested-good, good-thread}
 
 module _ (s : State) (t : ℕ) where
   -- a thread's kind is no part of its stack
@@ -20,8 +20,8 @@ module _ (s : State) (t : ℕ) where
     -- a thread with no entries becomes of another kind
     good-kind : threadAt s t .len ≡ 0 → (k : ℕ) → k < 4 → Good (withThread s t (withKind (threadAt s t) k))
     unfolding withThread displayAt
-    good-kind z k l = good-of (withThread s t (withKind (threadAt s t) k))
-        (parts-thread s (parts-of s g) t (withKind (threadAt s t) k) thread)
+    good-kind z k l = nested-good
+        (good-thread s g t (withKind (threadAt s t) k) thread)
         (nesting-same (g .nesting) (λ a. (refl, refl)) (λ a. refl) (kind-stacks k))
       where
         old : ThreadGood (threadAt s t)

@@ -15,7 +15,7 @@ use Rattle.model.specs.State.{State, Memory, areaAt, current, storeOf}
 use Rattle.model.specs.Calls.{Call, start, end, make, enter, exit, allocate, store, write, asks}
 use Rattle.model.specs.Run.{Line, World}
 use Rattle.model.specs.History.{Object, History, threadRow, below, occurrences, handles, isScopeOnNone, historyStart, historyEnter, historyExit, historyAllocate, historyStep, historyLine, historyFrom, historyOf}
-use Rattle.model.specs.Claims.{Open, Walk, ends, goes, Meets, here, up, InOrder, none, keep, skip, onRow, scan, In, Among, Within, Allocates, Since, made, stays, Names, Claims}
+use Rattle.model.specs.Claims.{Open, Walk, ends, goes, Meets, here, up, InOrder, keep, skip, onRow, scan, In, Among, Within, Allocates, Since, made, stays, Names, Claims}
 use Rattle.model.proofs.Lists.{on-one, occ-le-total, occ-nil, occ-other}
 use Rattle.model.proofs.Memory.{put-same, put-other}
 use Rattle.model.proofs.Traces.{among-some}

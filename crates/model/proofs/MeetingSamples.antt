@@ -45,7 +45,7 @@ unfolding each busy
 make-meets = refl
 
 -- thread t enters the heap n times
-pub heaps : ℕ → ℕ → List Call
+heaps : ℕ → ℕ → List Call
 heaps t zero = []
 heaps t (suc n) = enter t 0 ∷ heaps t n
 

@@ -2,7 +2,7 @@
 -- Assumes nothing.
 use Prim.Native.Nat.{ℕ, suc, _+_, _-_, _≤_, _<_}
 use mathlib.Core.Bool.{true, false, _||_}
-use mathlib.Core.Path.{_≡_, refl, sym, ap, _∙_}
+use mathlib.Core.Path.{_≡_, refl, ap}
 use mathlib.Core.Logic.{inl, inr}
 use lib.ListN.{set, length-set}
 use lib.Seq.{getD-set-same, getD-set-other}
@@ -31,7 +31,7 @@ use Rattle.model.proofs.Live.{live-given, given-tile, given-place, give
 -- ---- one used word is replaced
 
 -- the memory with v for word p of area c
-abbrev pub wordPut : State → Memory → ℕ → ℕ → ℕ → Memory
+abbrev wordPut : State → Memory → ℕ → ℕ → ℕ → Memory
 wordPut s m c p v = withStore m c (set (storeOf m c) (areaAt s c .start + p) v)
 
 module _ (s : State) (m : Memory) (b : History) (o : Sound s m b) (c p v : ℕ) (hc : c < 64) (hp : p < usedIn s c) where

@@ -107,7 +107,7 @@ module _ {par : ℕ → ℕ} {dis : ℕ → List ℕ} {cnt : ℕ → ℕ} {rows 
       (λ k. absurd (omega arith), v .nested t ht)
 
   -- scope q has a count that is one higher, and every other area the count it had
-  abbrev pub OneMore : ℕ → (ℕ → ℕ) → Type 0
+  abbrev OneMore : ℕ → (ℕ → ℕ) → Type 0
   OneMore q cnt′ = (cnt′ q ≡ suc (cnt q)) × ((a : ℕ) → a ≢ q → cnt′ a ≡ cnt a)
 
   counted : (q : ℕ) (cnt′ : ℕ → ℕ) → OneMore q cnt′
@@ -160,7 +160,7 @@ module _ {par : ℕ → ℕ} {dis : ℕ → List ℕ} {cnt : ℕ → ℕ} {rows 
         (λ u k m. v .nested u k)
         (rest .1)
 
-    abbrev pub OneLess : (ℕ → ℕ) → Type 0
+    abbrev OneLess : (ℕ → ℕ) → Type 0
     OneLess cnt′ = (suc (cnt′ q) ≡ cnt q) × ((a : ℕ) → a ≢ q → cnt′ a ≡ cnt a)
 
     -- a scope is left: where its count is 0 then, its parent may change

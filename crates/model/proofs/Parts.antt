@@ -1,4 +1,4 @@
--- What is read of a state after a part of it is replaced, and the invariant without its nesting.
+-- What is read of a state after a part of it is replaced, and what stays good of it.
 -- Assumes nothing.
 use Prim.Native.Nat.{ℕ, _≤_, _<_}
 use mathlib.Core.List.{List, []}
@@ -15,7 +15,7 @@ use Rattle.model.specs.declared.Area.{Area}
 use Rattle.model.specs.declared.Lengths.{Lengths}
 use Rattle.model.specs.State.{Thread, State, noArea, noThread, areaAt, rowAt, threadAt, withArea, withRow, withThread, withTaken, entriesOf, stackAt, innermost, displayAt}
 use Rattle.model.specs.History.{total}
-use Rattle.model.specs.Invariant.{branchOf, firstOf, Nesting, ThreadGood, Each, StandingGood, ScopeGood, Placed, parentIn, countIn, stacksIn, Good}
+use Rattle.model.specs.Invariant.{branchOf, firstOf, Nesting, ThreadGood, StandingGood, ScopeGood, Placed, parentIn, stacksIn, NestingIn, GoodWith, Good}
 use Rattle.model.proofs.Lists.{innermost-is, each-set}
 use Rattle.model.proofs.Nesting.{nested-frame}
 
@@ -81,21 +81,11 @@ nesting-same {par} {par′} {dis} {dis′} {rows = rows} v f c e = record {
   nested = λ t h. rw e (nested-frame par par′ dis dis′ (getD rows t []) (λ a x. f a) (v .nested t h));
 }
 
--- ---- the invariant without its nesting
+-- ---- the invariant
 
-pub record Parts (s : State) : Type 0 where
-  pub areas : length (s .areas) ≡ 64
-  pub rows : Each (λ (r : List ℕ). length r ≡ 32) [] 64 (s .rows)
-  pub threads : Each ThreadGood noThread 16 (s .threads)
-  pub standing : (a : ℕ) → a < 2 → StandingGood (areaAt s a)
-  pub scopes : (a : ℕ) → 2 ≤ a → a < 64 → ScopeGood (areaAt s a)
-  pub placed : Placed s
-
-pub parts-of : (s : State) → Good s → Parts s
-parts-of s g = record { areas = g .areas; rows = g .rows; threads = g .threads; standing = g .standing; scopes = g .scopes; placed = g .placed }
-
-pub good-of : (s : State) → Parts s → Nesting (parentIn s) (displayAt s) (countIn s) (stacksIn s) → Good s
-good-of s p v = record { areas = p .areas; rows = p .rows; threads = p .threads; standing = p .standing; scopes = p .scopes; placed = p .placed; nesting = v }
+-- at the end of a call the state itself is nested
+pub nested-good : {n s : State} → GoodWith n s → NestingIn s → Good s
+nested-good g v = record { areas = g .areas; rows = g .rows; threads = g .threads; standing = g .standing; scopes = g .scopes; placed = g .placed; nesting = v }
 
 -- an area that lies where it lay, with no more used words than it has
 pub record SamePlace (x y : Area) : Type 0 where
@@ -125,72 +115,60 @@ placed-same s r p l n f =
           (p .apart a c ha ka hc kc ne j k (omega (arith, f a ka .size)) (omega (arith, f c kc .size)));
     }
 
-module _ (s : State) (p : Parts s) where
+module _ {n : State} (s : State) (g : GoodWith n s) where
   same : (a : ℕ) → a < 64 → SamePlace (areaAt s a) (areaAt s a)
-  same a k = record { start = refl; size = refl; used = p .placed .used a k }
+  same a k = record { start = refl; size = refl; used = g .placed .used a k }
 
   -- a thread is replaced
-  pub parts-thread : (t : ℕ) (h : Thread) → ThreadGood h → Parts (withThread s t h)
+  pub good-thread : (t : ℕ) (h : Thread) → ThreadGood h → GoodWith n (withThread s t h)
   unfolding withThread
-  parts-thread t h o = record {
-    areas = p .areas;
-    rows = p .rows;
-    threads = each-set ThreadGood noThread 16 (s .threads) t h (p .threads) o;
-    standing = p .standing;
-    scopes = p .scopes;
-    placed = placed-same s (withThread s t h) (p .placed) refl refl same;
+  good-thread t h o = record {
+    areas = g .areas;
+    rows = g .rows;
+    threads = each-set ThreadGood noThread 16 (s .threads) t h (g .threads) o;
+    standing = g .standing;
+    scopes = g .scopes;
+    placed = placed-same s (withThread s t h) (g .placed) refl refl same;
+    nesting = g .nesting;
   }
 
   -- a row is replaced
-  pub parts-row : (q : ℕ) (r : List ℕ) → length r ≡ 32 → Parts (withRow s q r)
+  pub good-row : (q : ℕ) (r : List ℕ) → length r ≡ 32 → GoodWith n (withRow s q r)
   unfolding withRow
-  parts-row q r o = record {
-    areas = p .areas;
-    rows = each-set (λ (r : List ℕ). length r ≡ 32) [] 64 (s .rows) q r (p .rows) o;
-    threads = p .threads;
-    standing = p .standing;
-    scopes = p .scopes;
-    placed = placed-same s (withRow s q r) (p .placed) refl refl same;
+  good-row q r o = record {
+    areas = g .areas;
+    rows = each-set (λ (r : List ℕ). length r ≡ 32) [] 64 (s .rows) q r (g .rows) o;
+    threads = g .threads;
+    standing = g .standing;
+    scopes = g .scopes;
+    placed = placed-same s (withRow s q r) (g .placed) refl refl same;
+    nesting = g .nesting;
   }
 
   module _ (q : ℕ) (x : Area) (k : q < 64) where
     -- what holds of x and of every other area
     pub area-by : (P : Area → Type 0) (a : ℕ) → (a ≡ q → P x) → (a ≢ q → P (areaAt s a)) → P (areaAt (withArea s q x) a)
     area-by P a o f = cases (eqb a q)
-        (λ e. rw (eqb-true a q e, area-same s q x (omega (arith, p .areas))) (o (eqb-true a q e)))
+        (λ e. rw (eqb-true a q e, area-same s q x (omega (arith, g .areas))) (o (eqb-true a q e)))
         (λ e. rw (area-other s q x a (eqb-false a q e)) (f (eqb-false a q e)))
 
     -- an area is replaced, and how many scratch words are taken
-    pub parts-made : (q < 2 → StandingGood x) → (2 ≤ q → ScopeGood x) → (n : ℕ) → Placed (withTaken (withArea s q x) n) → Parts (withTaken (withArea s q x) n)
+    pub good-made : (q < 2 → StandingGood x) → (2 ≤ q → ScopeGood x) → (m : ℕ) → Placed (withTaken (withArea s q x) m) → GoodWith n (withTaken (withArea s q x) m)
     unfolding withTaken withArea
-    parts-made low high n o = record {
-      areas = length-set (s .areas) q x ∙ p .areas;
-      rows = p .rows;
-      threads = p .threads;
-      standing = λ a h. area-by StandingGood a (λ e. low (omega arith)) (λ ne. p .standing a h);
-      scopes = λ a h l. area-by ScopeGood a (λ e. high (omega arith)) (λ ne. p .scopes a h l);
+    good-made low high m o = record {
+      areas = length-set (s .areas) q x ∙ g .areas;
+      rows = g .rows;
+      threads = g .threads;
+      standing = λ a h. area-by StandingGood a (λ e. low (omega arith)) (λ ne. g .standing a h);
+      scopes = λ a h l. area-by ScopeGood a (λ e. high (omega arith)) (λ ne. g .scopes a h l);
       placed = o;
+      nesting = g .nesting;
     }
 
     -- an area is replaced by one that lies where it lay
-    pub parts-area : (q < 2 → StandingGood x) → (2 ≤ q → ScopeGood x) → SamePlace (areaAt s q) x → Parts (withArea s q x)
+    pub good-area : (q < 2 → StandingGood x) → (2 ≤ q → ScopeGood x) → SamePlace (areaAt s q) x → GoodWith n (withArea s q x)
     unfolding withTaken withArea
-    parts-area low high o =
-        parts-made low high (s .taken)
-        (placed-same s (withArea s q x) (p .placed) refl refl
+    good-area low high o =
+        good-made low high (s .taken)
+        (placed-same s (withArea s q x) (g .placed) refl refl
         (λ a l. area-by (SamePlace (areaAt s a)) a (λ e. rw e o) (λ ne. same a l)))
-
-    -- a number of an area that is no other in x
-    pub number-kept : (f : Area → ℕ) → f x ≡ f (areaAt s q) → (a : ℕ) → f (areaAt (withArea s q x) a) ≡ f (areaAt s a)
-    number-kept f o a = area-by (λ (y : Area). f y ≡ f (areaAt s a)) a (λ e. rw e o) (λ ne. refl)
-
-    -- where x has the parent, depth and count that the area had
-    pub nesting-area : x .parent ≡ areaAt s q .parent → x .depth ≡ areaAt s q .depth → x .count ≡ areaAt s q .count
-        → Nesting (parentIn s) (displayAt s) (countIn s) (stacksIn s)
-        → Nesting (parentIn (withArea s q x)) (displayAt (withArea s q x)) (countIn (withArea s q x)) (stacksIn (withArea s q x))
-    unfolding displayAt withArea
-    nesting-area e d c v =
-        nesting-same v
-        (λ a. (number-kept (λ (y : Area). y .parent) e a, ap (down (rowAt s a)) (number-kept (λ (y : Area). y .depth) d a)))
-        (number-kept (λ (y : Area). y .count) c)
-        refl

@@ -36,12 +36,12 @@ unfoldable pub status : World → Call → ℕ
 unfolding answer
 status w c = answer w c .status
 
-unfoldable pub value : World → Call → ℕ
+value : World → Call → ℕ
 unfolding answer
 value w c = answer w c .value
 
 -- the world that a call leaves, and a list of calls
-unfoldable pub next : World → Call → World
+next : World → Call → World
 unfolding answer
 next w c = step w (record { call = c; supplied = kept })
 
@@ -111,7 +111,7 @@ busy = record {
 }
 
 -- it is what these calls leave
-abbrev pub busily : List Call
+abbrev busily : List Call
 busily =
     start 1 1 ∷ start 2 2 ∷ start 3 3 ∷ make 2 2 6 ∷ make 2 3 4 ∷ allocate 2 1 1
     ∷ enter 2 1 ∷ allocate 2 2 2 ∷ enter 2 2 ∷ allocate 2 1 2 ∷ enter 2 3 ∷ allocate 2 1 0 ∷ []

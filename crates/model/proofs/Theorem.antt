@@ -60,12 +60,12 @@ module _ (w : World) (e : Element) where
 
 -- ---- the invariant of a world, and its trace
 
-pub record Told (w : World) : Type 0 where
-  pub holds : Holds w
-  pub since : (a : ℕ) (x : Object) → In x (historyOf (w .trace) .objects a) → Since (x .handle) a (w .trace)
-  pub stored : Stored (w .state) (w .memory) (w .trace)
-  pub opened : Opened (w .state) (w .trace)
-  pub answers : AllAnswer (w .trace)
+record Told (w : World) : Type 0 where
+  holds : Holds w
+  since : (a : ℕ) (x : Object) → In x (historyOf (w .trace) .objects a) → Since (x .handle) a (w .trace)
+  stored : Stored (w .state) (w .memory) (w .trace)
+  opened : Opened (w .state) (w .trace)
+  answers : AllAnswer (w .trace)
 
 module _ (w : World) (e : Element) (o : Told w) where
   leads : Transition (w .state) (w .memory) (line w e) (step w e .state) (step w e .memory)

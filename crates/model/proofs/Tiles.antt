@@ -21,7 +21,7 @@ abbrev pub place : Object → ℕ
 place o = offsetOf (o .handle)
 
 -- the bits of a header above the data words
-abbrev pub topOf : ℕ → ℕ
+abbrev topOf : ℕ → ℕ
 topOf w = w / 268435456
 
 -- what a header says of its object: "s in bits 0 to 13, d in bits 14 to 27, the rest 0"

@@ -63,7 +63,7 @@ abbrev pub changing : State → Memory → Change → Effect
 changing s m x = record { status = fitted s m (x .status); value = x .value; words = []; state = x .state; memory = m }
 
 -- a call that writes lent words and leaves the state: "The value is 0 where none is named"
-abbrev pub writing : State → ℕ → Memory → Effect
+abbrev writing : State → ℕ → Memory → Effect
 writing s status next = record { status = status; value = 0; words = []; state = s; memory = next }
 
 -- The first refusal that a question meets, and what it yields where none does. "Refusals of this call (1, 2, 13, 5) show a part of length 0; a
@@ -75,7 +75,7 @@ replyTo s m (views t p) = record { status = 0; value = 0; words = viewWords s m 
 replyTo s m (viewsStatus t p) = record { status = viewRefusal s m t p; value = 0; words = [] }
 
 -- a call that changes nothing
-abbrev pub asking : State → Memory → Reply → Effect
+abbrev asking : State → Memory → Reply → Effect
 asking s m x = record { status = x .status; value = x .value; words = x .words; state = s; memory = m }
 
 -- one clause for each call, and one for all questions

@@ -108,11 +108,20 @@ countIn s a = areaAt s a .count
 abbrev pub stacksIn : State → List (List ℕ)
 stacksIn s = map entriesOf (s .threads)
 
-pub record Good (s : State) : Type 0 where
+-- its nesting
+abbrev pub NestingIn : State → Type 0
+NestingIn s = Nesting (parentIn s) (displayAt s) (countIn s) (stacksIn s)
+
+-- The areas, the rows and the threads of s are good, each by itself, and n is nested. Between the stores of a call n is the state before it.
+pub record GoodWith (n s : State) : Type 0 where
   pub areas : length (s .areas) ≡ 64
   pub rows : Each (λ (r : List ℕ). length r ≡ 32) [] 64 (s .rows)
   pub threads : Each ThreadGood noThread 16 (s .threads)
   pub standing : (a : ℕ) → a < 2 → StandingGood (areaAt s a)
   pub scopes : (a : ℕ) → 2 ≤ a → a < 64 → ScopeGood (areaAt s a)
   pub placed : Placed s
-  pub nesting : Nesting (parentIn s) (displayAt s) (countIn s) (stacksIn s)
+  pub nesting : NestingIn n
+
+-- the invariant: both of one state
+abbrev pub Good : State → Type 0
+Good s = GoodWith s s

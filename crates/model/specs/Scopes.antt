@@ -96,7 +96,7 @@ unfoldable pub exitRest : State → ℕ → ℕ
 exitRest s t = called s t (refuse (eqb (threadAt s t .len) 0) 11 0)
 
 -- n, or 0 where the count is about to fall to 0
-abbrev pub unlessLast : Area → ℕ → ℕ
+abbrev unlessLast : Area → ℕ → ℕ
 unlessLast x n = pick (leb (x .count) 1) 0 n
 
 -- "If it was a scope its count falls by 1; at 0 the scope has no parent and no used words". Nor has it a display.

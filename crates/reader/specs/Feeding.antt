@@ -69,7 +69,7 @@ after-after : (o p : List ℕ) (f : Feeding) → after o (after p f) ≡ after (
 after-after o p f = rw (append-assoc o p (f .output)) refl
 
 -- feeding a ++ b is feeding a, then b
-abbrev pub Splits : List ℕ → List ℕ → World → List ℕ → Type 0
+abbrev Splits : List ℕ → List ℕ → World → List ℕ → Type 0
 Splits a b w l = fed w l (a ++ b) ≡ after (fed w l a .output) (fed (fed w l a .world) (fed w l a .line) b)
 
 splits-end : (c : ℕ) (a b : List ℕ) (w : World) (l : List ℕ) → eqb c 10 ≡ true → Splits a b (afterLine w l) [] → Splits (c ∷ a) b w l
@@ -115,7 +115,7 @@ unfolding answersOf
 more-lines w l ls = refl
 
 -- feeding, and the end of input, give the answers to the lines
-abbrev pub Answers : List ℕ → World → List ℕ → Type 0
+abbrev Answers : List ℕ → World → List ℕ → Type 0
 Answers input w l = fed w l input .output ++ finished (fed w l input .world) (fed w l input .line) .output ≡ answersOf w (linesOf l input)
 
 answers-end : (b : ℕ) (input : List ℕ) (w : World) (l : List ℕ) → eqb b 10 ≡ true → Answers input (afterLine w l) [] → Answers (b ∷ input) w l
@@ -127,7 +127,7 @@ answers-end b input w l e h =
 answers-other : (b : ℕ) (input : List ℕ) (w : World) (l : List ℕ) → eqb b 10 ≡ false → Answers input w (l ++ (b ∷ [])) → Answers (b ∷ input) w l
 answers-other b input w l e h = rw (fed-other w l b input e, lines-other l b input e) h
 
-pub fed-lines : (input : List ℕ) (w : World) (l : List ℕ) → Answers input w l
+fed-lines : (input : List ℕ) (w : World) (l : List ℕ) → Answers input w l
 fed-lines [] w l = rw (fed-none w l) (rest-lines w l)
 fed-lines (b ∷ input) w l =
     cases (eqb b 10)

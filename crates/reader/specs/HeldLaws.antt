@@ -44,7 +44,7 @@ length-to : (w : World) (x : Parsed) → length (answerTo w x) ≡ 19
 length-to w (Frame f) = length-answer _ _
 length-to w Bad = length-answer 18 0
 
-pub length-line : (w : World) (l : List ℕ) → length (lineAnswer w l) ≡ 19
+length-line : (w : World) (l : List ℕ) → length (lineAnswer w l) ≡ 19
 unfolding lineAnswer
 length-line w l = length-to w (parsedOf l)
 

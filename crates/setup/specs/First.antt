@@ -21,7 +21,7 @@ use Rattle.tables.specs.Blank.{blank-holds}
 abbrev pub firstWords : ℕ → ℕ → Lengths → List ℕ
 firstWords h i n = putLengths (putArea (putArea (replicate wordCount 0) 0 (standing 0 h)) 1 (standing h i)) n
 
-pub first-holds : (h i : ℕ) (n : Lengths) → Holds (firstWords h i n) (replicate byteCount 0) (firstState h i n)
+first-holds : (h i : ℕ) (n : Lengths) → Holds (firstWords h i n) (replicate byteCount 0) (firstState h i n)
 unfolding withArea firstState
 first-holds h i n =
     let b : List ℕ = replicate byteCount 0 in
