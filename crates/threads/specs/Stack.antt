@@ -15,8 +15,8 @@ use Rattle.tables.specs.Laws.{len-read, entry-read, inner-read}
 use Rattle.tables.specs.Contract.{Ready}
 
 -- the current area and the innermost scope
-abbrev pub topOf : List ℕ → Entry
-topOf l = record { area = current l; inner = innermost l }
+abbrev pub topEntryOf : List ℕ → Entry
+topEntryOf l = record { area = current l; inner = innermost l }
 
 -- ---- of a thread
 
@@ -50,10 +50,10 @@ module _ (w b : List ℕ) (r : Ready w b) (t : ℕ) (h : t < 16) (x : ThreadWord
   pub length-bound : x .len ≤ 32
   length-bound = omega (arith, length-is, r .good .threads .each t h .fits)
 
-  pub no-top : x .len ≡ 0 → record { area = 0; inner = 0 } ≡ topOf (stackAt (stateOf w b) t)
+  pub no-top : x .len ≡ 0 → record { area = 0; inner = 0 } ≡ topEntryOf (stackAt (stateOf w b) t)
   no-top z = rw (current-none (threadAt (stateOf w b) t) (length-is ∙ z), inner-none (threadAt (stateOf w b) t) (length-is ∙ z))
 
-  pub top-is : 0 < x .len → entryRecord b t (x .len - 1) ≡ topOf (stackAt (stateOf w b) t)
+  pub top-is : 0 < x .len → entryRecord b t (x .len - 1) ≡ topEntryOf (stackAt (stateOf w b) t)
   top-is o =
       let l : x .len - 1 < 32 = omega (arith, length-bound) in
       let m : threadAt (stateOf w b) t .len ≡ suc (x .len - 1) = length-is ∙ omega arith in
