@@ -11,15 +11,6 @@ enter-area-requires c κs =
     let o = c .before .before in
     (o .pre .0 .sized, rw (o .pre .2) (o .pre .1 .opens))
 
-cast-push : tie.Need-cast-push
-cast-push c = search needs
-
-cast-inner-after : tie.Need-cast-inner-after
-cast-inner-after c = search needs
-
-inner-after-requires : tie.Need-inner-after-requires
-inner-after-requires c κs = search needs
-
 push-requires : tie.Need-push-requires
 push-requires c κs =
     let o = c .before .before .before .before .before .before in
@@ -39,8 +30,8 @@ apply-enter-spec =
     tie.close
     (tie.spec
     enter-area-requires
-    cast-push
-    cast-inner-after
-    inner-after-requires
+    (λ c. search needs)
+    (λ c. search needs)
+    (λ c κs. search needs)
     push-requires
     returns)

@@ -6,9 +6,6 @@ use Rattle.entry.specs.Entered.{entered-standing, entered-open, entered-
 use Rattle.entry.proofs.enter_area.Statement.{statement}
 use Rattle.entry.proofs.enter_area.Tie as tie
 
-area-at-requires : tie.Need-area-at-requires
-area-at-requires c κs = search needs
-
 returns : tie.Need-returns
 returns c =
     let o = c .before .before .before in
@@ -24,9 +21,6 @@ reentered-area-requires c κs =
     let a = o .args in
     count-room (now (a .words)) (now (a .bytes)) (a .q) (a .p) (o .pre .1) (c .before .before .before .before .area-at .ensures)
 
-put-area-requires : tie.Need-put-area-requires
-put-area-requires c κs = search needs
-
 returns-2 : tie.Need-returns-2
 returns-2 c =
     let o = c .before .before .before .before .before .before .before .before in
@@ -36,17 +30,11 @@ returns-2 c =
       entered-open (now (a .words)) (now (a .bytes)) (o .pre .0) (a .q) (a .p) (h .area) (h .parent) (c .before .before .before .before .before .before .area-at .ensures) (search needs) (search needs) (c .before .reentered-area .ensures) (c .put-area .ensures),
     )
 
-area-at-requires-2 : tie.Need-area-at-requires-2
-area-at-requires-2 c κs = search needs
-
 opened-area-requires : tie.Need-opened-area-requires
 opened-area-requires c κs =
     let o = c .before .before .before .before .before .before .before in
     let a = o .args in
     (generation-room (now (a .words)) (now (a .bytes)) (a .q) (a .p) (o .pre .1) (c .before .before .before .before .before .area-at .ensures) (search needs) (search needs), depth-room (now (a .words)) (now (a .bytes)) (a .q) (a .p) (o .pre .1) (c .area-at2 .ensures))
-
-put-area-requires-2 : tie.Need-put-area-requires-2
-put-area-requires-2 c κs = search needs
 
 put-display-requires : tie.Need-put-display-requires
 put-display-requires c κs =
@@ -67,13 +55,13 @@ pub enter-area-spec : {M : Type 1} → statement M
 enter-area-spec =
     tie.close
     (tie.spec
-    area-at-requires
+    (λ c κs. search needs)
     returns
     reentered-area-requires
-    put-area-requires
+    (λ c κs. search needs)
     returns-2
-    area-at-requires-2
+    (λ c κs. search needs)
     opened-area-requires
-    put-area-requires-2
+    (λ c κs. search needs)
     put-display-requires
     returns-3)

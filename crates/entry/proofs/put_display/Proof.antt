@@ -9,18 +9,6 @@ use Rattle.layout.specs.Display.{extendedRow}
 use Rattle.entry.proofs.put_display.Statement.{statement}
 use Rattle.entry.proofs.put_display.Tie as tie
 
-row-at-requires : tie.Need-row-at-requires
-row-at-requires c κs = search needs
-
-cast-extended : tie.Need-cast-extended
-cast-extended c = search needs
-
-extended-requires : tie.Need-extended-requires
-extended-requires c κs = search needs
-
-put-row-requires : tie.Need-put-row-requires
-put-row-requires c κs = search needs
-
 returns : tie.Need-returns
 returns c =
     let a = c .before .before .before .before .before .args in
@@ -28,4 +16,4 @@ returns c =
     ∙ ap (putRow (now (a .bytes)) (a .q)) (c .before .extended .ensures ∙ ap (λ (r : List ℕ). extendedRow r (a .depth .0) (a .q)) (c .before .before .before .row-at .ensures))
 
 pub put-display-spec : {M : Type 1} → statement M
-put-display-spec = tie.close (tie.spec row-at-requires cast-extended extended-requires put-row-requires returns)
+put-display-spec = tie.close (tie.spec (λ c κs. search needs) (λ c. search needs) (λ c κs. search needs) (λ c κs. search needs) returns)

@@ -5,11 +5,8 @@ use borrow.Author.Needs.{needs}
 use Rattle.entry.proofs.reentered_area.Statement.{statement}
 use Rattle.entry.proofs.reentered_area.Tie as tie
 
-add-y : tie.Need-add-y
-add-y c = search needs
-
 returns : tie.Need-returns
 returns c = rw add-one refl
 
 pub reentered-area-spec : {M : Type 1} → statement M
-reentered-area-spec = tie.close (tie.spec add-y returns)
+reentered-area-spec = tie.close (tie.spec (λ c. search needs) returns)

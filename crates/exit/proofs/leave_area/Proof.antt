@@ -14,17 +14,11 @@ returns c =
     let a = o .args in
     (count-standing (now (a .words)) (now (a .bytes)) (o .pre .0) (a .q) (search needs), left-standing (now (a .words)) (now (a .bytes)) (o .pre .0) (a .q) (search needs))
 
-area-at-requires : tie.Need-area-at-requires
-area-at-requires c κs = search needs
-
 left-area-requires : tie.Need-left-area-requires
 left-area-requires c κs =
     let o = c .before .before .before in
     let a = o .args in
     left-open (now (a .words)) (now (a .bytes)) (a .q) (o .pre .1) (o .pre .2) (c .area-at .ensures) (search needs)
-
-put-area-requires : tie.Need-put-area-requires
-put-area-requires c κs = search needs
 
 returns-2 : tie.Need-returns-2
 returns-2 c =
@@ -38,4 +32,4 @@ returns-2 c =
 
 pub leave-area-spec : {M : Type 1} → statement M
 leave-area-spec =
-    tie.close (tie.spec returns area-at-requires left-area-requires put-area-requires returns-2)
+    tie.close (tie.spec returns (λ c κs. search needs) left-area-requires (λ c κs. search needs) returns-2)

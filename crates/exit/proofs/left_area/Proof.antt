@@ -5,9 +5,6 @@ use Rattle.exit.specs.Exit.{left-more, left-last}
 use Rattle.exit.proofs.left_area.Statement.{statement}
 use Rattle.exit.proofs.left_area.Tie as tie
 
-sub-next : tie.Need-sub-next
-sub-next c = search needs
-
 returns : tie.Need-returns
 returns c = left-more _ (search needs)
 
@@ -15,4 +12,4 @@ returns-2 : tie.Need-returns-2
 returns-2 c = left-last (c .before .before .args .x) (omega arith)
 
 pub left-area-spec : {M : Type 1} → statement M
-left-area-spec = tie.close (tie.spec sub-next returns returns-2)
+left-area-spec = tie.close (tie.spec (λ c. search needs) returns returns-2)

@@ -25,27 +25,6 @@ part-holds b a d x h =
     rw (e, getD-take rowBytes (drop (rowIndex (displayRows + a)) b) (d - 1) 0 k, getD-drop (rowIndex (displayRows + a)) b (d - 1) 0, byte-read b (displayRows + a) (d - 1) k))
     (λ e. rw e)
 
-add-at : tie.Need-add-at
-add-at c = search needs
-
-mul-at : tie.Need-mul-at
-mul-at c = search needs
-
-add-holds : tie.Need-add-holds
-add-holds c = search needs
-
-sub-holds : tie.Need-sub-holds
-sub-holds c = search needs
-
-part-holds-start : tie.Need-part-holds-start
-part-holds-start c = search needs
-
-part-holds-end : tie.Need-part-holds-end
-part-holds-end c = search needs
-
-holds-requires : tie.Need-holds-requires
-holds-requires c κs = search needs
-
 returns : tie.Need-returns
 returns c =
     let a = c .before .before .before .args in
@@ -56,11 +35,11 @@ pub row-holds-spec : {M : Type 1} → statement M
 row-holds-spec =
     tie.close
     (tie.spec
-    add-at
-    mul-at
-    add-holds
-    sub-holds
-    part-holds-start
-    part-holds-end
-    holds-requires
+    (λ c. search needs)
+    (λ c. search needs)
+    (λ c. search needs)
+    (λ c. search needs)
+    (λ c. search needs)
+    (λ c. search needs)
+    (λ c κs. search needs)
     returns)

@@ -6,9 +6,6 @@ use Rattle.threads.specs.Caller.{other-permanent, other-scratch, by-map}
 use Rattle.threads.proofs.caller.lengths_fit.Statement.{statement}
 use Rattle.threads.proofs.caller.lengths_fit.Tie as tie
 
-lengths-at-requires : tie.Need-lengths-at-requires
-lengths-at-requires c κs = search needs
-
 returns : tie.Need-returns
 returns c =
     let a = c .before .before .before .before .before .before .args in
@@ -25,4 +22,4 @@ returns-3 c =
     by-map (now (a .words)) (now (a .bytes)) (memoryOf (now (a .permanent)) (now (a .scratch)) (now (a .map))) _ (c .before .before .before .before .before .lengths-at .ensures) (search needs) (search needs)
 
 pub lengths-fit-spec : {M : Type 1} → statement M
-lengths-fit-spec = tie.close (tie.spec lengths-at-requires returns returns-2 returns-3)
+lengths-fit-spec = tie.close (tie.spec (λ c κs. search needs) returns returns-2 returns-3)
