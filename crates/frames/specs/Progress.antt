@@ -9,9 +9,10 @@ use Rattle.reader.specs.Output.{firstWorld}
 use Rattle.reader.specs.Feeding.{joined}
 use Rattle.reader.specs.Held.{Core, Represents, held, Finishes}
 use Rattle.reader.specs.Program.{FedChunks}
+use Rattle.rounds.specs.Steps.{Wrote}
 use Rattle.frames.specs.declared.Ended.{Ended}
 
--- ---- steps: a call that moves n bytes takes n + 1 of them, so that what is left tells what was read and written
+-- ---- steps: what a read and a write take of them is said in `rounds`
 
 -- how many there are: 2^64 - 1
 abbrev pub allSteps : ℕ
@@ -20,16 +21,6 @@ allSteps = 18446744073709551615
 -- more than a round and the rest take
 abbrev pub reserve : ℕ
 reserve = 1000000
-
--- a read of n bytes; where it fails, it gave nothing, and one step is left, for this round's write of nothing
-pub data Read (before after n : ℕ) : Type 0 where
-  read : after + n + 1 ≡ before → Read before after n
-  unread : after ≡ 1 → n ≡ 0 → Read before after n
-
--- a write of n bytes; where it fails, no step is left
-pub data Wrote (before after n : ℕ) : Type 0 where
-  wrote : after + n + 1 ≡ before → Wrote before after n
-  unwritten : after ≡ 0 → Wrote before after n
 
 -- every step is accounted for: for each chunk a read and a write, and the bytes of both; or something failed, and none is left
 pub data Spent (chunks : List (List ℕ)) (written : List ℕ) (steps : ℕ) : Type 0 where

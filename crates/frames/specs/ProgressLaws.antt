@@ -13,8 +13,9 @@ use Rattle.reader.specs.Output.{firstWorld}
 use Rattle.reader.specs.Feeding.{joined}
 use Rattle.reader.specs.Held.{Core, Represents, held, Feeds, Finishes}
 use Rattle.reader.specs.Program.{FedChunks, none, more}
+use Rattle.rounds.specs.Steps.{Read, read, unread, Wrote, wrote, unwritten}
 use Rattle.frames.specs.declared.Ended.{Ended}
-use Rattle.frames.specs.Progress.{allSteps, reserve, Read, read, unread, Wrote, wrote, unwritten, Spent, spent, failed, Stopped, at-end, too-few, Continues, Last, no-chunk, last-chunk, Progress, Ran}
+use Rattle.frames.specs.Progress.{allSteps, reserve, Spent, spent, failed, Stopped, at-end, too-few, Continues, Last, no-chunk, last-chunk, Progress, Ran}
 
 -- ---- whether another round follows
 

@@ -5,8 +5,8 @@ use native.Mathlib.Omega.{arith}
 use lib.ListN.{length}
 use lib.Seq.{length-take-le}
 use borrow.Author.Needs.{needs}
-use Rattle.frames.proofs.answer_chunk.Statement.{statement}
-use Rattle.frames.proofs.answer_chunk.Tie as tie
+use Rattle.rounds.proofs.answer_chunk.Statement.{statement}
+use Rattle.rounds.proofs.answer_chunk.Tie as tie
 
 slice-aggregate-feed : tie.Need-slice-aggregate-feed
 slice-aggregate-feed c = search needs

@@ -5,8 +5,8 @@ use native.Mathlib.Omega.{arith}
 use lib.ListN.{length}
 use lib.Seq.{length-take-le}
 use borrow.Author.Needs.{needs}
-use Rattle.frames.proofs.answer_rest.Statement.{statement}
-use Rattle.frames.proofs.answer_rest.Tie as tie
+use Rattle.rounds.proofs.answer_rest.Statement.{statement}
+use Rattle.rounds.proofs.answer_rest.Tie as tie
 
 finish-requires : tie.Need-finish-requires
 finish-requires c κs = search needs

@@ -1,10 +1,10 @@
 -- `read_chunk` meets its contract: a read takes as many steps as it says.
 use mathlib.Core.Path.{refl}
 use native.Mathlib.Omega.{arith}
-use Rattle.frames.specs.Progress.{read, unread}
+use Rattle.rounds.specs.Steps.{read, unread}
 use borrow.Author.Needs.{needs}
-use Rattle.frames.proofs.read_chunk.Statement.{statement}
-use Rattle.frames.proofs.read_chunk.Tie as tie
+use Rattle.rounds.proofs.read_chunk.Statement.{statement}
+use Rattle.rounds.proofs.read_chunk.Tie as tie
 
 read-requires : tie.Need-read-requires
 read-requires c κs = search needs

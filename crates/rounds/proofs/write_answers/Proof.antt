@@ -1,10 +1,10 @@
 -- `write_answers` meets its contract: a write takes as many steps as it says.
 use mathlib.Core.Path.{refl}
 use native.Mathlib.Omega.{arith}
-use Rattle.frames.specs.Progress.{wrote, unwritten}
+use Rattle.rounds.specs.Steps.{wrote, unwritten}
 use borrow.Author.Needs.{needs}
-use Rattle.frames.proofs.write_answers.Statement.{statement}
-use Rattle.frames.proofs.write_answers.Tie as tie
+use Rattle.rounds.proofs.write_answers.Statement.{statement}
+use Rattle.rounds.proofs.write_answers.Tie as tie
 
 slice-aggregate-write-all : tie.Need-slice-aggregate-write-all
 slice-aggregate-write-all c = search needs

@@ -1,0 +1,2 @@
+-- What a read and a write take.
+pub mod Steps
