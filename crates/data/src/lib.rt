@@ -1,37 +1,11 @@
 // Ops 09 and 0a: a data word is written or read.
 use layout::answer::Answer;
-use objects::Checked;
+use objects::Indexed;
+use objects::Part;
 use tables::Bytes;
 use tables::Words;
-ghost use Rattle.model.specs.Data.{dataRest};
 ghost use Rattle.model.specs.Calls as calls;
 ghost use Rattle.tables.specs.Contract.{Usable, Answers};
-ghost use Rattle.objects.specs.Resolving.{Admissible, Checks};
-
-// Refusals 13, 5 and 14, for a call that has passed 1 and 2: an object and one of its data words.
-fn check_data(
-    words: &Words,
-    bytes: &Bytes,
-    permanent: &[u64],
-    scratch: &[u64],
-    map: &[u64],
-    t: u64,
-    p: u64,
-    q: u64,
-) -> Checked
-    requires { ⌜ Admissible words bytes permanent scratch map t ⌝ }
-    ensures { λ r. ⌜ Checks r words bytes permanent scratch map p (λ s m. dataRest s m t p q) ⌝ }
-{
-    match objects::check_object(words, bytes, permanent, scratch, map, t, p) {
-        Checked::Refused(n) => Checked::Refused(n),
-        Checked::Passed(o) => {
-            if o.data_words <= q {
-                return Checked::Refused(14);
-            }
-            Checked::Passed(o)
-        }
-    }
-}
 
 // Op 09: object p, data word q, the new word; the value is 0.
 pub fn write(
@@ -55,11 +29,10 @@ pub fn write(
             value: 0,
         };
     }
-    match check_data(words, bytes, permanent, scratch, map, t, p, q) {
-        Checked::Refused(status) => Answer { status, value: 0 },
-        Checked::Passed(o) => {
-            let at = o.at + 1 + (o.slots + q) as usize;
-            objects::put_word(permanent, scratch, o.area, at, word);
+    match objects::check_index(words, bytes, permanent, scratch, map, t, p, Part::Data, q) {
+        Indexed::Refused(status) => Answer { status, value: 0 },
+        Indexed::At(w) => {
+            objects::put_word(permanent, scratch, w.area, w.at, word);
             let value = 0; // none is named
             Answer { status: 0, value }
         }
@@ -87,14 +60,13 @@ pub fn read(
             value: 0,
         };
     }
-    match check_data(words, bytes, permanent, scratch, map, t, p, q) {
-        Checked::Refused(n) => Answer {
+    match objects::check_index(words, bytes, permanent, scratch, map, t, p, Part::Data, q) {
+        Indexed::Refused(n) => Answer {
             status: n,
             value: 0,
         },
-        Checked::Passed(x) => {
-            let from = x.at + 1 + (x.slots + q) as usize;
-            let word = objects::word_at(permanent, scratch, x.area, from);
+        Indexed::At(w) => {
+            let word = objects::word_at(permanent, scratch, w.area, w.at);
             Answer {
                 status: 0,
                 value: word,

@@ -27,3 +27,10 @@ chain-more f true k c = record {
   stops = λ h n. refl;
 }
 chain-more f false k c = record { passes = c .passes; stops = c .stops }
+
+-- a chain that gives 0 with a rest gives 0 without it
+pub chain-passed : {f : ℕ → ℕ} → Chain f → (rest : ℕ) → f rest ≡ 0 → f 0 ≡ 0
+chain-passed {f} c rest e =
+    cases (eqb (f 0) 0)
+    (λ z. eqb-true (f 0) 0 z)
+    (λ z. sym (c .stops (eqb-false (f 0) 0 z) rest) ∙ e)

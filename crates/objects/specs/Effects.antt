@@ -1,10 +1,11 @@
--- The words of a found object: where they lie, and what a word written there leaves.
+-- The words of a found object: where they lie, and what a word read or written there is.
 -- Assumes nothing.
-use Prim.Native.Nat.{ℕ, _+_, _<_}
+use Prim.Native.Nat.{ℕ, _+_, _≤_, _<_}
 use mathlib.Core.Bool.{true}
 use mathlib.Core.List.{List}
 use mathlib.Core.Path.{_≡_, refl, sym, ap, _∙_, subst}
 use native.Mathlib.Omega.{arith}
+use native.Mathlib.Nat.{zero-add}
 use lib.ListN.{length, getD, set}
 use Rattle.layout.specs.Handle.{areaOf, offsetOf}
 use Rattle.model.specs.State.{State, Memory, areaAt, storeOf}
@@ -12,18 +13,19 @@ use Rattle.model.specs.Checks.{fits}
 use Rattle.model.specs.References.{placeAfter, wordAfter, storeAfter}
 use Rattle.model.specs.Data.{dataIndex}
 use Rattle.model.specs.Invariant.{Good}
-use Rattle.model.proofs.Accepted.{UseOk, SlotOk, DataOk}
+use Rattle.model.proofs.Accepted.{UseOk}
 use Rattle.tables.specs.Contract.{memoryOf}
 use Rattle.objects.specs.declared.find.Resolved.{Resolved}
+use Rattle.objects.specs.declared.index.Part.{Part}
+use Rattle.objects.specs.declared.index.Part.the-variants.{Slots, Data}
+use Rattle.objects.specs.declared.index.WordPlace.{WordPlace}
 use Rattle.objects.specs.Found.{objectOf}
 use Rattle.objects.specs.Places.{Lies, lies}
 use Rattle.objects.specs.Stores.{Stored, stored-memory}
-use Rattle.objects.specs.Statuses.{area-is, slots-is, data-words-is}
+use Rattle.objects.specs.Indexed.{countOf, firstOf, indexRest, wordIndex, wordOf}
+use Rattle.objects.specs.Statuses.{area-is, slots-is, index-ok}
 
--- word i after the header of an object lies in its store
-pub record Room (m : Memory) (o : Resolved) (i : ℕ) : Type 0 where
-  pub low : o .at + 1 + i < 16384
-  pub inside : o .at + 1 + i < length (storeOf m (o .area))
+-- ---- the object
 
 module _ (s : State) (m : Memory) (p : ℕ) (o : Resolved) (e : o ≡ objectOf s m p) where
   header-at : objectOf s m p .at ≡ areaAt s (areaOf p) .start + offsetOf p
@@ -33,38 +35,54 @@ module _ (s : State) (m : Memory) (p : ℕ) (o : Resolved) (e : o ≡ objectOf s
   pub place-is : (i : ℕ) → o .at + 1 + i ≡ placeAfter s p i
   place-is i = omega (arith, ap (λ (x : Resolved). x .at) e, header-at)
 
-  pub word-is : (i : ℕ) → getD (storeOf m (o .area)) (o .at + 1 + i) 0 ≡ wordAfter s m p i
-  word-is i = rw (place-is i, area-is s m p o e) refl
-
   pub index-is : (q : ℕ) → o .slots + q ≡ dataIndex s m p q
   index-is q = ap (λ (n : ℕ). n + q) (slots-is s m p o e)
 
-  pub data-is : (q : ℕ) → getD (storeOf m (o .area)) (o .at + 1 + (o .slots + q)) 0 ≡ wordAfter s m p (dataIndex s m p q)
-  data-is q = word-is (o .slots + q) ∙ ap (wordAfter s m p) (index-is q)
+  -- the object of an accepted call
+  pub object-lies : Good s → fits s m ≡ true → (t : ℕ) → UseOk s m t p → Lies m o
+  object-lies g f t u = subst (Lies m) (sym e) (lies s m p g f (u .object))
 
-  -- a word is written there
-  pub slot-stored : (i v : ℕ) {p′ s′ : List ℕ} → Stored p′ s′ (m .permanent) (m .scratch) (o .area) (set (storeOf m (o .area)) (o .at + 1 + i) v)
-      → memoryOf p′ s′ (m .map) ≡ storeAfter s m p i v
-  unfolding storeAfter
-  slot-stored i v z = stored-memory z (m .map) ∙ rw (place-is i, area-is s m p o e) refl
+  -- ---- word q of a part of it
 
-  pub data-stored : (q v : ℕ) {p′ s′ : List ℕ} → Stored p′ s′ (m .permanent) (m .scratch) (o .area) (set (storeOf m (o .area)) (o .at + 1 + (o .slots + q)) v)
-      → memoryOf p′ s′ (m .map) ≡ storeAfter s m p (dataIndex s m p q) v
-  data-stored q v z = slot-stored (o .slots + q) v z ∙ ap (λ (i : ℕ). storeAfter s m p i v) (index-is q)
+  first-is : (part : Part) (q : ℕ) → firstOf part o + q ≡ wordIndex part s m p q
+  first-is Slots q = zero-add q
+  first-is Data q = index-is q
 
-  -- an accepted call
-  module _ (g : Good s) (f : fits s m ≡ true) (t : ℕ) where
-    pub object-lies : UseOk s m t p → Lies m o
-    object-lies u = subst (Lies m) (sym e) (lies s m p g f (u .object))
+  pub word-place : (part : Part) (q : ℕ) → record { area = o .area; at = o .at + 1 + (firstOf part o + q) } ≡ wordOf part s m p q
+  unfolding wordOf
+  word-place part q = rw (first-is part q, place-is (wordIndex part s m p q), area-is s m p o e) refl
 
-    pub slot-room : (q : ℕ) → SlotOk s m t p q → Room m o q
-    slot-room q k =
-        let l = object-lies (k .used) in
-        let h : q < o .slots = rw (slots-is s m p o e) (k .slot) in
-        record { low = omega (arith, l .low, h); inside = omega (arith, l .inside, h) }
+  -- a part ends with the object
+  part-ends : (part : Part) → firstOf part o + countOf part o ≤ o .slots + o .data_words
+  part-ends Slots = omega arith
+  part-ends Data = omega arith
 
-    pub data-room : (q : ℕ) → DataOk s m t p q → Room m o (o .slots + q)
-    data-room q k =
-        let l = object-lies (k .used) in
-        let h : q < o .data_words = rw (data-words-is s m p o e) (k .index) in
-        record { low = omega (arith, l .low, h); inside = omega (arith, l .inside, h) }
+  -- a part of the object of an accepted call, and a word of the part
+  module _ (g : Good s) (f : fits s m ≡ true) (t : ℕ) (u : UseOk s m t p) (part : Part) (q : ℕ) (h : q < countOf part o) where
+    pub word-low : o .at + 1 + (firstOf part o + q) < 16384
+    word-low = omega (arith, object-lies g f t u .low, part-ends part)
+
+    word-inside : o .at + 1 + (firstOf part o + q) < length (storeOf m (o .area))
+    word-inside = omega (arith, object-lies g f t u .inside, part-ends part)
+
+-- ---- a word that is found: it lies in its store, what is read there, and what a word written there leaves
+
+module _ (part : Part) (s : State) (m : Memory) (p q : ℕ) (w : WordPlace) (e : w ≡ wordOf part s m p q) where
+  pub word-area : w .area ≡ areaOf p
+  unfolding wordOf
+  word-area = ap (λ (x : WordPlace). x .area) e
+
+  pub word-in : Good s → fits s m ≡ true → (t : ℕ) → indexRest part s m t p q ≡ 0 → w .at < length (storeOf m (w .area))
+  word-in g f t z =
+      let k = index-ok part s m t p q z in
+      let d = e ∙ sym (word-place s m p _ refl part q) in
+      rw d (word-inside s m p _ refl g f t (k .0) part q (k .1))
+
+  pub word-read : getD (storeOf m (w .area)) (w .at) 0 ≡ wordAfter s m p (wordIndex part s m p q)
+  unfolding wordOf
+  word-read = rw e refl
+
+  pub word-written : (v : ℕ) {p′ s′ : List ℕ} → Stored p′ s′ (m .permanent) (m .scratch) (w .area) (set (storeOf m (w .area)) (w .at) v)
+      → memoryOf p′ s′ (m .map) ≡ storeAfter s m p (wordIndex part s m p q) v
+  unfolding wordOf storeAfter
+  word-written v z = stored-memory z (m .map) ∙ rw e refl

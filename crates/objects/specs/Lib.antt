@@ -3,7 +3,9 @@ pub mod Found
 pub mod Places
 pub mod Steps
 pub mod Stores
+pub mod Verdict
 pub mod Checked
+pub mod Indexed
 pub mod Resolving
 pub mod Chains
 pub mod Statuses

@@ -6,7 +6,7 @@ use mathlib.Core.Path.{_≡_, refl, sym, _∙_}
 use native.Mathlib.Omega.{arith}
 use lib.Dec.{eqb, leb, ltb}
 use lib.ListN.{length}
-use borrow.Author.Tests.{ltb-true, ltb-false, leb-true, leb-false, eqb-true, eq-eqb, ne-eqb, lt-ltb, le-leb}
+use borrow.Author.Tests.{ltb-true, ltb-false, leb-true, eqb-true, eq-eqb, ne-eqb, lt-ltb, le-leb}
 use Rattle.layout.specs.Choice.{pick, refuse, cases, pick-true, pick-false, and-true}
 use Rattle.layout.specs.Handle.{null, offsetOf, areaOf, generationOf}
 use Rattle.layout.specs.HandleLaws.{area-lt, slots-lt, data-lt}

@@ -1,18 +1,27 @@
 -- One law for each way that the checks of every call on an object end.
 -- Assumes nothing.
-use Prim.Native.Nat.{ℕ}
+use Prim.Native.Nat.{ℕ, _≤_, _<_}
 use mathlib.Core.Bool.{true, false, not}
 use mathlib.Core.Path.{_≡_, refl, sym, ap, _∙_}
-use Rattle.layout.specs.Choice.{refuse, hit, skip}
+use mathlib.Core.Logic.{_≢_}
+use lib.Dec.{leb}
+use borrow.Author.Tests.{leb-false, le-leb, lt-leb}
+use Rattle.layout.specs.Choice.{refuse, hit, skip, peel}
 use Rattle.layout.specs.Handle.{areaOf}
 use Rattle.layout.specs.Header.{slotsOf, dataOf}
 use Rattle.rights.specs.declared.Right.the-variants.{Use}
 use Rattle.model.specs.State.{State, Memory}
 use Rattle.model.specs.Checks.{hasRight, headerAt, isObject, useRest}
+use Rattle.model.specs.References.{slotRest}
+use Rattle.model.specs.Data.{dataRest}
 use Rattle.model.specs.Invariant.{Good}
+use Rattle.model.proofs.Accepted.{UseOk, use-ok}
 use Rattle.objects.specs.declared.find.Resolved.{Resolved}
 use Rattle.objects.specs.declared.find.Found.the-variants.{At, Nothing}
+use Rattle.objects.specs.declared.index.Part.{Part}
+use Rattle.objects.specs.declared.index.Part.the-variants.{Slots, Data}
 use Rattle.objects.specs.Found.{objectOf, foundOf}
+use Rattle.objects.specs.Indexed.{countOf, indexRest}
 use Rattle.objects.specs.Places.{at-live, nothing-live, object-live}
 use Rattle.objects.specs.Chains.{Chain, chain-none, chain-more}
 
@@ -64,3 +73,32 @@ module _ (s : State) (m : Memory) (t p : ℕ) where
       use-right r = sym (
           skip (not (isObject s m p)) 13 _ found
           ∙ skip (not (hasRight s t Use (areaOf p))) 5 0 (ap not (ap (hasRight s t Use) (sym (found-area s m p o e)) ∙ r)))
+
+-- ---- refusal 14; n is what check_object answers
+
+-- both parts have the same chain, over how many words the part has
+index-rest : (part : Part) (s : State) (m : Memory) (t p q : ℕ)
+    → indexRest part s m t p q ≡ useRest s m t p (refuse (leb (countOf part (objectOf s m p)) q) 14 0)
+unfolding slotRest dataRest objectOf
+index-rest Slots s m t p q = refl
+index-rest Data s m t p q = refl
+
+module _ (part : Part) (s : State) (m : Memory) (t p q : ℕ) where
+  pub index-not-used : {n : ℕ} → n ≡ useRest s m t p 0 → n ≢ 0 → n ≡ indexRest part s m t p q
+  index-not-used e h = e ∙ sym (index-rest part s m t p q ∙ use-chain s m t p .stops (λ z. h (e ∙ z)) _)
+
+  module _ (z : useRest s m t p 0 ≡ 0) (o : Resolved) (e : o ≡ objectOf s m p) where
+    past-use : refuse (leb (countOf part o) q) 14 0 ≡ indexRest part s m t p q
+    past-use = rw e (sym (index-rest part s m t p q ∙ use-chain s m t p .passes z _))
+
+    pub index-past : countOf part o ≤ q → 14 ≡ indexRest part s m t p q
+    index-past h = sym (hit (leb (countOf part o) q) 14 0 (le-leb (countOf part o) q h)) ∙ past-use
+
+    pub index-in : q < countOf part o → 0 ≡ indexRest part s m t p q
+    index-in h = sym (skip (leb (countOf part o) q) 14 0 (lt-leb (countOf part o) q h)) ∙ past-use
+
+  -- what an accepted call has passed
+  pub index-ok : indexRest part s m t p q ≡ 0 → UseOk s m t p × (q < countOf part (objectOf s m p))
+  index-ok z =
+      let a = use-ok s m t p _ (sym (index-rest part s m t p q) ∙ z) in
+      (a .0, leb-false (countOf part (objectOf s m p)) q (peel _ _ _ (a .1) .0))

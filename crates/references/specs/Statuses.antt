@@ -20,30 +20,16 @@ use Rattle.tables.specs.Decode as decode
 use Rattle.tables.specs.Laws.{area-read, row-read}
 use Rattle.objects.specs.declared.find.Resolved.{Resolved}
 use Rattle.objects.specs.declared.find.Found.the-variants.{At, Nothing}
-use Rattle.objects.specs.Found.{objectOf, foundOf}
+use Rattle.objects.specs.Found.{foundOf}
 use Rattle.objects.specs.Places.{at-live, nothing-live}
-use Rattle.objects.specs.Chains.{Chain, chain-none, chain-more}
-use Rattle.objects.specs.Statuses.{slots-is, found-area, use-chain}
+use Rattle.objects.specs.Chains.{Chain, chain-none, chain-more, chain-passed}
+use Rattle.objects.specs.Statuses.{found-area, use-chain}
 
--- ---- refusal 14: a slot; n is what check_object answers
+-- ---- refusals 13, 5 and 14
 
-module _ (s : State) (m : Memory) (t p q : ℕ) where
-  pub slot-chain : Chain (slotRest s m t p q)
-  unfolding slotRest
-  slot-chain = chain-more (useRest s m t p) (leb (slotsOf (headerAt s m p)) q) 13 (use-chain s m t p)
-
-  pub slot-not-used : {n : ℕ} → n ≡ useRest s m t p 0 → n ≢ 0 → n ≡ slotRest s m t p q 0
-  unfolding slotRest
-  slot-not-used e h = e ∙ sym (use-chain s m t p .stops (λ z. h (e ∙ z)) _)
-
-  module _ (z : useRest s m t p 0 ≡ 0) (o : Resolved) (e : o ≡ objectOf s m p) where
-    pub slot-past : o .slots ≤ q → 14 ≡ slotRest s m t p q 0
-    unfolding slotRest
-    slot-past h = sym (use-chain s m t p .passes z _ ∙ rw (← slots-is s m p o e) (hit (leb (o .slots) q) 14 0 (le-leb (o .slots) q h)))
-
-    pub slot-in : q < o .slots → 0 ≡ slotRest s m t p q 0
-    unfolding slotRest
-    slot-in h = sym (use-chain s m t p .passes z _ ∙ rw (← slots-is s m p o e) (skip (leb (o .slots) q) 14 0 (lt-leb (o .slots) q h)))
+slot-chain : (s : State) (m : Memory) (t p q : ℕ) → Chain (slotRest s m t p q)
+unfolding slotRest
+slot-chain s m t p q = chain-more (useRest s m t p) (leb (slotsOf (headerAt s m p)) q) 13 (use-chain s m t p)
 
 -- ---- refusals 15 and 5: a target or a loaded word
 
@@ -99,13 +85,17 @@ null-may : (s : State) (object r : ℕ) → r ≡ null → true ≡ mayRefer s o
 unfolding mayRefer areaOf
 null-may s object r e = rw e
 
--- ---- ops 07 and 08; n is what check_slot or check_reference answers
+-- ---- ops 07 and 08; n is what check_index or check_reference answers
 
 module _ (s : State) (m : Memory) (t p q : ℕ) where
   module _ (r : ℕ) where
     pub store-no-slot : {n : ℕ} → n ≡ slotRest s m t p q 0 → n ≢ 0 → n ≡ storeRest s m t p q r
     unfolding storeRest
     store-no-slot e h = e ∙ sym (slot-chain s m t p q .stops (λ z. h (e ∙ z)) _)
+
+    pub store-slot : storeRest s m t p q r ≡ 0 → slotRest s m t p q 0 ≡ 0
+    unfolding storeRest
+    store-slot = chain-passed (slot-chain s m t p q) _
 
     module _ (z : slotRest s m t p q 0 ≡ 0) where
       pub store-no-reference : {n : ℕ} → n ≡ referenceRest s m t r 0 → n ≢ 0 → n ≡ storeRest s m t p q r

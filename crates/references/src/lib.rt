@@ -2,17 +2,19 @@
 use layout::answer::Answer;
 use layout::display::Depth;
 use layout::handle;
-use objects::Checked;
 use objects::Found;
+use objects::Indexed;
+use objects::Part;
 use rights::Right;
 use tables::Bytes;
 use tables::Words;
 ghost use mathlib.Core.Path.{_≡_};
 ghost use Prim.Native.Nat.{_<_};
-ghost use Rattle.model.specs.References.{mayRefer, slotRest, referenceRest, storeRest};
+ghost use Rattle.model.specs.References.{mayRefer, referenceRest, storeRest};
 ghost use Rattle.model.specs.Calls as calls;
 ghost use Rattle.tables.specs.Contract.{before, supplied, Usable, Answers};
-ghost use Rattle.objects.specs.Resolving.{Admissible, Checks};
+ghost use Rattle.objects.specs.declared.index.Part.the-variants.{Slots};
+ghost use Rattle.objects.specs.Resolving.{Admissible, Indexes};
 
 // The assignment rule, for the areas of an object and of a target: one look into the display of the
 // object's area (source 004, Algorithm 9).
@@ -29,31 +31,6 @@ fn may_refer(words: &Words, bytes: &Bytes, object: u64, target: u64) -> bool
         return false;
     }
     tables::row_holds(bytes, object as usize, Depth(depth as usize), target as u8)
-}
-
-// Refusals 13, 5 and 14, for a call that has passed 1 and 2: an object and one of its slots.
-fn check_slot(
-    words: &Words,
-    bytes: &Bytes,
-    permanent: &[u64],
-    scratch: &[u64],
-    map: &[u64],
-    t: u64,
-    p: u64,
-    q: u64,
-) -> Checked
-    requires { ⌜ Admissible words bytes permanent scratch map t ⌝ }
-    ensures { λ r. ⌜ Checks r words bytes permanent scratch map p (λ s m. slotRest s m t p q 0) ⌝ }
-{
-    match objects::check_object(words, bytes, permanent, scratch, map, t, p) {
-        Checked::Refused(n) => Checked::Refused(n),
-        Checked::Passed(o) => {
-            if o.slots <= q {
-                return Checked::Refused(14);
-            }
-            Checked::Passed(o)
-        }
-    }
 }
 
 // Refusals 15 and 5: a target or a loaded word. Null always passes.
@@ -94,22 +71,22 @@ fn check_store(
     p: u64,
     q: u64,
     target: u64,
-) -> Checked
+) -> Indexed
     requires { ⌜ Admissible words bytes permanent scratch map t ⌝ }
-    ensures { λ r. ⌜ Checks r words bytes permanent scratch map p (λ s m. storeRest s m t p q target) ⌝ }
+    ensures { λ r. ⌜ Indexes r words bytes permanent scratch map p Slots q (λ s m. storeRest s m t p q target) ⌝ }
 {
-    match check_slot(words, bytes, permanent, scratch, map, t, p, q) {
-        Checked::Refused(n) => Checked::Refused(n),
-        Checked::Passed(o) => {
+    match objects::check_index(words, bytes, permanent, scratch, map, t, p, Part::Slots, q) {
+        Indexed::Refused(n) => Indexed::Refused(n),
+        Indexed::At(w) => {
             let refusal = check_reference(words, bytes, permanent, scratch, map, t, target);
-            let may = may_refer(words, bytes, o.area, handle::area(target));
+            let may = may_refer(words, bytes, w.area, handle::area(target));
             if refusal != 0 {
-                return Checked::Refused(refusal);
+                return Indexed::Refused(refusal);
             }
             if !may {
-                return Checked::Refused(16);
+                return Indexed::Refused(16);
             }
-            Checked::Passed(o)
+            Indexed::At(w)
         }
     }
 }
@@ -137,10 +114,9 @@ pub fn store(
         };
     }
     match check_store(words, bytes, permanent, scratch, map, t, p, q, target) {
-        Checked::Refused(status) => Answer { status, value: 0 },
-        Checked::Passed(o) => {
-            let at = o.at + 1 + q as usize;
-            objects::put_word(permanent, scratch, o.area, at, target);
+        Indexed::Refused(status) => Answer { status, value: 0 },
+        Indexed::At(w) => {
+            objects::put_word(permanent, scratch, w.area, w.at, target);
             Answer {
                 status: 0,
                 value: 0,
@@ -172,11 +148,10 @@ pub fn load(
             value: 0,
         };
     }
-    match check_slot(words, bytes, permanent, scratch, map, t, p, q) {
-        Checked::Refused(status) => Answer { status, value: 0 },
-        Checked::Passed(o) => {
-            let from = o.at + 1 + q as usize;
-            let x = objects::word_at(permanent, scratch, o.area, from);
+    match objects::check_index(words, bytes, permanent, scratch, map, t, p, Part::Slots, q) {
+        Indexed::Refused(status) => Answer { status, value: 0 },
+        Indexed::At(w) => {
+            let x = objects::word_at(permanent, scratch, w.area, w.at);
             let status = check_reference(words, bytes, permanent, scratch, map, t, x);
             if status != 0 {
                 return Answer { status, value: 0 };

@@ -1,7 +1,6 @@
 -- `check_reference` meets its contract: one law for each way that it ends.
 use mathlib.Core.Path.{_≡_, sym, _∙_}
 use borrow.Author.Needs.{needs}
-use denote.Ref.{now}
 use Rattle.model.specs.State.{State, Memory}
 use Rattle.tables.specs.Contract.{stateIn, memoryIn}
 use borrow.Author.Tests.{not-true, not-false}
@@ -34,12 +33,6 @@ returns c = reference-null _ _ _ _ (c .if1 .taken)
 lookup-requires : tie.Need-lookup-requires
 lookup-requires c κs = (start c .pre .0, start c .pre .1 .supplied)
 
-enum-known-o : tie.Need-enum-known-o
-enum-known-o c = search needs
-
-enum-told : tie.Need-enum-told
-enum-told c = search needs
-
 returns-2 : tie.Need-returns-2
 returns-2 c = reference-nothing _ _ _ _ (c .before .before .before .if1 .left) (sym (c .enum-told .given .1) ∙ c .before .before .lookup .ensures .0)
 
@@ -61,10 +54,5 @@ check-reference-spec =
     tie.close
     (tie.spec
     returns
-    lookup-requires
-    enum-known-o
-    enum-told
-    returns-2
-    has-right-requires
-    returns-3
-    returns-4)
+    lookup-requires (λ c. search needs) (λ c. search needs) returns-2
+    has-right-requires returns-3 returns-4)

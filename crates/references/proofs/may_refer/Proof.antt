@@ -14,19 +14,10 @@ use Rattle.references.proofs.may_refer.Tie as tie
 returns : tie.Need-returns
 returns c = may-plain _ _ _ _ (c .if1 .taken)
 
-area-at-requires : tie.Need-area-at-requires
-area-at-requires c κs = search needs
-
-area-at-requires-2 : tie.Need-area-at-requires-2
-area-at-requires-2 c κs = search needs
-
 returns-2 : tie.Need-returns-2
 returns-2 c =
     let i = c .before .before .before .before in
     may-deeper (now (i .args .words)) (now (i .args .bytes)) (i .args .object) (i .args .target) (c .before .before .before .if1 .left) (i .pre .1) (i .pre .2) _ _ (c .before .before .area-at .ensures) (c .before .area-at2 .ensures) (c .if2 .taken)
-
-cast-row-holds : tie.Need-cast-row-holds
-cast-row-holds c = search needs
 
 row-holds-requires : tie.Need-row-holds-requires
 row-holds-requires c κs =
@@ -46,9 +37,5 @@ may-refer-spec =
     tie.close
     (tie.spec
     returns
-    area-at-requires
-    area-at-requires-2
-    returns-2
-    cast-row-holds
-    row-holds-requires
-    returns-3)
+    (λ c κs. search needs) (λ c κs. search needs) returns-2
+    (λ c. search needs) row-holds-requires returns-3)

@@ -34,12 +34,6 @@ lookup-requires c κs =
     let i = c .before .before .before in
     (i .pre .0, i .pre .1 .supplied)
 
-enum-known-o : tie.Need-enum-known-o
-enum-known-o c = search needs
-
-enum-told : tie.Need-enum-told
-enum-told c = search needs
-
 returns : tie.Need-returns
 returns c =
     let d = c .before .before in
@@ -63,4 +57,6 @@ returns-3 c =
 pub check-object-spec : {M : Type 1} → statement M
 check-object-spec =
     tie.close
-    (tie.spec lookup-requires enum-known-o enum-told returns has-right-requires returns-2 returns-3)
+    (tie.spec
+    lookup-requires (λ c. search needs) (λ c. search needs) returns
+    has-right-requires returns-2 returns-3)

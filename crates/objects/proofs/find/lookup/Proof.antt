@@ -13,20 +13,11 @@ use Rattle.objects.specs.Steps.{Read, offset-low, other-generation, past
 use Rattle.objects.proofs.find.lookup.Statement.{statement}
 use Rattle.objects.proofs.find.lookup.Tie as tie
 
-area-requires : tie.Need-area-requires
-area-requires c κs = search needs
-
-offset-requires : tie.Need-offset-requires
-offset-requires c κs = search needs
-
 low : (c : tie.After-offset) → c .before .area .result < 64
 low c = rw (c .before .area .ensures) (area-lt (c .before .before .before .before .before .args .handle))
 
 area-at-requires : tie.Need-area-at-requires
 area-at-requires c κs = low c
-
-generation-requires : tie.Need-generation-requires
-generation-requires c κs = search needs
 
 -- the entry, and what has been read past the call of area_at
 abbrev start : tie.After-area-at → tie.Start
@@ -94,16 +85,7 @@ pub lookup-spec : {M : Type 1} → statement M
 lookup-spec =
     tie.close
     (tie.spec
-    area-requires
-    offset-requires
-    area-at-requires
-    generation-requires
-    returns
-    returns-2
-    add-at
-    bit-index-requires
-    bit-requires
-    returns-3
-    word-at-requires
-    whole-requires
-    returns-4)
+    (λ c κs. search needs) (λ c κs. search needs) area-at-requires (λ c κs. search needs)
+    returns returns-2
+    add-at bit-index-requires bit-requires returns-3
+    word-at-requires whole-requires returns-4)

@@ -6,15 +6,6 @@ use Rattle.objects.specs.Steps.{ends-at, ends-out}
 use Rattle.objects.proofs.find.whole.Statement.{statement}
 use Rattle.objects.proofs.find.whole.Tie as tie
 
-slots-requires : tie.Need-slots-requires
-slots-requires c κs = search needs
-
-data-words-requires : tie.Need-data-words-requires
-data-words-requires c κs = search needs
-
-add-if1 : tie.Need-add-if1
-add-if1 c = search needs
-
 add-if1-2 : tie.Need-add-if1-2
 add-if1-2 c = omega (arith, c .before .slots .ensures, slots-lt (c .before .before .args .header))
 
@@ -36,4 +27,6 @@ returns-2 c =
 pub whole-spec : {M : Type 1} → statement M
 whole-spec =
     tie.close
-    (tie.spec slots-requires data-words-requires add-if1 add-if1-2 add-if1-3 returns returns-2)
+    (tie.spec
+    (λ c κs. search needs) (λ c κs. search needs) (λ c. search needs)
+    add-if1-2 add-if1-3 returns returns-2)

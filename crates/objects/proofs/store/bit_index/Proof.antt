@@ -5,9 +5,6 @@ use native.Mathlib.Nat.{zero-add}
 use Rattle.objects.proofs.store.bit_index.Statement.{statement}
 use Rattle.objects.proofs.store.bit_index.Tie as tie
 
-add-result : tie.Need-add-result
-add-result c = search needs
-
 returns : tie.Need-returns
 returns c = rw (le-leb 2 (c .before .args .area) (c .if1 .taken))
 
@@ -15,4 +12,4 @@ returns-2 : tie.Need-returns-2
 returns-2 c = rw (lt-leb 2 (c .before .args .area) (c .if1 .left), zero-add)
 
 pub bit-index-spec : {M : Type 1} → statement M
-bit-index-spec = tie.close (tie.spec add-result returns returns-2)
+bit-index-spec = tie.close (tie.spec (λ c. search needs) returns returns-2)

@@ -21,9 +21,6 @@ mul-permanent c = let h = in-permanent c in search needs
 slice-write-permanent : tie.Need-slice-write-permanent
 slice-write-permanent c = in-permanent c
 
-same-length : tie.Need-same-length
-same-length c = search needs
-
 returns : tie.Need-returns
 returns c =
     let a = c .before .args in
@@ -35,9 +32,6 @@ mul-scratch c = let h = in-scratch c in search needs
 slice-write-scratch : tie.Need-slice-write-scratch
 slice-write-scratch c = in-scratch c
 
-same-length-2 : tie.Need-same-length-2
-same-length-2 c = search needs
-
 returns-2 : tie.Need-returns-2
 returns-2 c =
     let a = c .before .args in
@@ -47,11 +41,5 @@ pub put-word-spec : {M : Type 1} → statement M
 put-word-spec =
     tie.close
     (tie.spec
-    mul-permanent
-    slice-write-permanent
-    same-length
-    returns
-    mul-scratch
-    slice-write-scratch
-    same-length-2
-    returns-2)
+    mul-permanent slice-write-permanent (λ c. search needs) returns
+    mul-scratch slice-write-scratch (λ c. search needs) returns-2)

@@ -35,9 +35,5 @@ pub word-at-spec : {M : Type 1} → statement M
 word-at-spec =
     tie.close
     (tie.spec
-    mul-result
-    shared-slice-read-result
-    returns
-    mul-result-2
-    shared-slice-read-result-2
-    returns-2)
+    mul-result shared-slice-read-result returns
+    mul-result-2 shared-slice-read-result-2 returns-2)

@@ -1,2 +1,0 @@
--- The laws that the proofs use.
-pub mod Statuses
