@@ -24,48 +24,48 @@ use Rattle.tables.specs.Laws.{state-area}
 use Rattle.tables.specs.Contract.{Borrowed, before, supplied, returned, Ready, memoryOf}
 use Rattle.threads.specs.Caller.{thread-refused, called-rest}
 use Rattle.model.proofs.PlacedWords.{supplied-lengths}
-use Rattle.objects.specs.Places.{Within, within}
-use Rattle.objects.specs.Stores.{Stored, stored-memory}
+use Rattle.objects.specs.Places.{AreaWords, area-words}
+use Rattle.objects.specs.Stores.{StoreWritten, stored-memory}
 use Rattle.model.proofs.Bounds.{current-area}
 
 -- what an accepted call yields and leaves
-pub record Allocated (value : ℕ) (w b : List ℕ) (x : Memory) (s : State) (m : Memory) (t slots words : ℕ) : Type 0 where
+pub record ObjectMade (value : ℕ) (w b : List ℕ) (x : Memory) (s : State) (m : Memory) (t slots dataWords : ℕ) : Type 0 where
   pub value-is : value ≡ allocateValue s (currentAt s t)
-  pub holds : Holds w b (allocateState s (currentAt s t) slots words)
-  pub memory-is : x ≡ allocateMemory s m (currentAt s t) slots words
+  pub holds : Holds w b (allocateState s (currentAt s t) slots dataWords)
+  pub memory-is : x ≡ allocateMemory s m (currentAt s t) slots dataWords
 
 -- the same over what a function is lent
-abbrev pub Allocates : ℕ → Borrowed → Borrowed → Borrowed → Borrowed → Borrowed → ℕ → ℕ → ℕ → Type 0
-Allocates value words bytes permanent scratch map t slots count =
-    Allocated value (now (words .exit)) (now (bytes .exit)) (returned permanent scratch map) (before words bytes) (supplied permanent scratch map) t slots count
+abbrev pub MakesObject : ℕ → Borrowed → Borrowed → Borrowed → Borrowed → Borrowed → ℕ → ℕ → ℕ → Type 0
+MakesObject value words bytes permanent scratch map t slots dataWords =
+    ObjectMade value (now (words .exit)) (now (bytes .exit)) (returned permanent scratch map) (before words bytes) (supplied permanent scratch map) t slots dataWords
 
 -- ---- the checks
 
-module _ (s : State) (t slots words : ℕ) where
-  pub allocate-not-called : {n : ℕ} → n ≡ called s t 0 → n ≢ 0 → n ≡ allocateRest s t slots words
+module _ (s : State) (t slots dataWords : ℕ) where
+  pub allocate-not-called : {n : ℕ} → n ≡ called s t 0 → n ≢ 0 → n ≡ allocateRest s t slots dataWords
   unfolding allocateRest
   allocate-not-called e h = thread-refused s t e h _
 
   module _ (a : Called s t) where
-    pub allocate-no-right : hasRight s t Allocate (currentAt s t) ≡ false → 5 ≡ allocateRest s t slots words
+    pub allocate-no-right : hasRight s t Allocate (currentAt s t) ≡ false → 5 ≡ allocateRest s t slots dataWords
     unfolding allocateRest
     allocate-no-right e = sym (called-rest s t a _ ∙ hit (not (hasRight s t Allocate (currentAt s t))) 5 _ (ap not e))
 
     -- x is the record of the current area
     module _ (r : hasRight s t Allocate (currentAt s t) ≡ true) (x : Area) (e : x ≡ areaAt s (currentAt s t)) where
-      pub allocate-no-room : x .size < suc (x .used + slots + words) → 12 ≡ allocateRest s t slots words
+      pub allocate-no-room : x .size < suc (x .used + slots + dataWords) → 12 ≡ allocateRest s t slots dataWords
       unfolding allocateRest
       allocate-no-room h = sym (
           called-rest s t a _
           ∙ skip (not (hasRight s t Allocate (currentAt s t))) 5 _ (ap not r)
-          ∙ rw (← e) (hit (ltb (x .size) (suc (x .used + slots + words))) 12 0 (lt-ltb (x .size) (suc (x .used + slots + words)) h)))
+          ∙ rw (← e) (hit (ltb (x .size) (suc (x .used + slots + dataWords))) 12 0 (lt-ltb (x .size) (suc (x .used + slots + dataWords)) h)))
 
-      pub allocate-room : suc (x .used + slots + words) ≤ x .size → 0 ≡ allocateRest s t slots words
+      pub allocate-room : suc (x .used + slots + dataWords) ≤ x .size → 0 ≡ allocateRest s t slots dataWords
       unfolding allocateRest
       allocate-room h = sym (
           called-rest s t a _
           ∙ skip (not (hasRight s t Allocate (currentAt s t))) 5 _ (ap not r)
-          ∙ rw (← e) (skip (ltb (x .size) (suc (x .used + slots + words))) 12 0 (le-ltb (x .size) (suc (x .used + slots + words)) h)))
+          ∙ rw (← e) (skip (ltb (x .size) (suc (x .used + slots + dataWords))) 12 0 (le-ltb (x .size) (suc (x .used + slots + dataWords)) h)))
 
 -- ---- the effect, where a is the current area and x its record
 
@@ -76,17 +76,17 @@ generation-low s g a k =
     (λ e. omega (arith, g .scopes a (leb-true 2 a e) k .generation))
     (λ e. omega (arith, g .standing a (leb-false 2 a e) .generation))
 
-module _ (w b : List ℕ) (m : Memory) (t slots words : ℕ) (r : Ready w b) (f : fits (stateOf w b) m ≡ true) (k : AllocateOk (stateOf w b) t slots words)
+module _ (w b : List ℕ) (m : Memory) (t slots dataWords : ℕ) (r : Ready w b) (f : fits (stateOf w b) m ≡ true) (k : AllocateOk (stateOf w b) t slots dataWords)
     (a : ℕ) (ea : a ≡ currentAt (stateOf w b) t) where
   pub area-low : a < 64
   area-low = rw ea (current-area (stateOf w b) (r .good) t (k .called .thread))
 
   module _ (x : Area) (ex : x ≡ areaAt (stateOf w b) a) where
-    room : suc (x .used + slots + words) ≤ x .size
+    room : suc (x .used + slots + dataWords) ≤ x .size
     room = rw (ex, ea) (k .room)
 
-    in-area : Within (stateOf w b) m a
-    in-area = within (stateOf w b) m (r .good) f a area-low
+    in-area : AreaWords (stateOf w b) m a
+    in-area = area-words (stateOf w b) m (r .good) f a area-low
 
     start-is : x .start ≡ areaAt (stateOf w b) a .start
     start-is = ap (λ (y : Area). y .start) ex
@@ -94,10 +94,10 @@ module _ (w b : List ℕ) (m : Memory) (t slots words : ℕ) (r : Ready w b) (f 
     size-is : x .size ≡ areaAt (stateOf w b) a .size
     size-is = ap (λ (y : Area). y .size) ex
 
-    pub words-low : x .start + x .used + 1 + slots + words ≤ 16384
+    pub words-low : x .start + x .used + 1 + slots + dataWords ≤ 16384
     words-low = omega (arith, room, in-area .low, start-is, size-is)
 
-    pub words-in : x .start + x .used + 1 + slots + words ≤ length (storeOf m a)
+    pub words-in : x .start + x .used + 1 + slots + dataWords ≤ length (storeOf m a)
     words-in = omega (arith, room, in-area .words, start-is, size-is)
 
     pub bit-sum : length (m .permanent) + (x .start + x .used) < 65536
@@ -107,10 +107,10 @@ module _ (w b : List ℕ) (m : Memory) (t slots words : ℕ) (r : Ready w b) (f 
       first-is : i ≡ pick (isScope a) (stateOf w b .lengths .permanent) 0 + (x .start + x .used)
       first-is = ei ∙ rw (supplied-lengths (stateOf w b) m f .permanent) refl
 
-      pub bits-in : i + 1 + (slots + words) ≤ 64 * length (m .map)
+      pub bits-in : i + 1 + (slots + dataWords) ≤ 64 * length (m .map)
       bits-in = omega (arith, first-is, room, in-area .bits, start-is, size-is)
 
-      pub bits-low : i + 1 + (slots + words) ≤ 32768
+      pub bits-low : i + 1 + (slots + dataWords) ≤ 32768
       bits-low = cases (leb 2 a)
           (λ e. omega (arith, (rw e at ei), words-low, in-area .first, supplied-lengths (stateOf w b) m f .permanent))
           (λ e. omega (arith, (rw e at ei), words-low))
@@ -118,13 +118,13 @@ module _ (w b : List ℕ) (m : Memory) (t slots words : ℕ) (r : Ready w b) (f 
       index-is : i ≡ bitIndex (stateOf w b) a (areaAt (stateOf w b) a .used)
       index-is = first-is ∙ rw ex refl
 
-      pub allocated : {p′ s′ m′ : List ℕ} {v : ℕ} → m′ ≡ objectBits (m .map) i (slots + words)
-          → Stored p′ s′ (m .permanent) (m .scratch) a (objectWords (storeOf m a) (x .start + x .used) slots words)
+      pub allocated : {p′ s′ m′ : List ℕ} {v : ℕ} → m′ ≡ objectBits (m .map) i (slots + dataWords)
+          → StoreWritten p′ s′ (m .permanent) (m .scratch) a (objectWords (storeOf m a) (x .start + x .used) slots dataWords)
           → v ≡ handleOf (x .used % 16384) (a % 64) (x .generation % 2 ^ 44)
-          → Allocated v (putArea w a (grown x (x .used + 1 + slots + words))) b (memoryOf p′ s′ m′) (stateOf w b) m t slots words
+          → ObjectMade v (putArea w a (grown x (x .used + 1 + slots + dataWords))) b (memoryOf p′ s′ m′) (stateOf w b) m t slots dataWords
       unfolding allocateValue allocateState allocateMemory
       allocated {m′ = m′} e z v =
-          let u : x .used + 1 + slots + words ≡ suc (x .used + slots + words) = omega arith in
+          let u : x .used + 1 + slots + dataWords ≡ suc (x .used + slots + dataWords) = omega arith in
           let o : x .used % 16384 ≡ x .used = omega (arith, words-low) in
           let c : a % 64 ≡ a = omega (arith, area-low) in
           let g : x .generation % 2 ^ 44 ≡ x .generation = omega (arith, generation-low (stateOf w b) (r .good) a area-low, ap (λ (y : Area). y .generation) ex) in

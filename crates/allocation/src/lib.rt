@@ -13,7 +13,7 @@ ghost use Rattle.model.specs.Calls as calls;
 ghost use Rattle.tables.specs.Contract.{stateIn, before, Usable, Answers};
 ghost use Rattle.objects.specs.Stores.{storeIn, Stores};
 ghost use Rattle.objects.specs.Resolving.{Fitting};
-ghost use Rattle.allocation.specs.Allocation.{Allocates};
+ghost use Rattle.allocation.specs.Allocation.{MakesObject};
 
 // The words of an object of a store: its header, and 0 in its slots and its data.
 fn write_object(store: &mut [u64], at: usize, slots: u64, data_words: u64)
@@ -96,7 +96,7 @@ fn apply_allocate(
     data_words: u64,
 ) -> u64
     requires { ⌜ Fitting words bytes permanent scratch map × (allocateRest (stateIn words bytes) t slots data_words ≡ 0) ⌝ }
-    ensures { λ r. ⌜ Allocates r words bytes permanent scratch map t slots data_words ⌝ }
+    ensures { λ r. ⌜ MakesObject r words bytes permanent scratch map t slots data_words ⌝ }
 {
     let area = threads::top_entry(words, bytes, t).area as u64;
     let x = tables::area_at(words, area as usize);

@@ -21,8 +21,8 @@ use Rattle.objects.specs.declared.index.Part.the-variants.{Slots, Data}
 use Rattle.objects.specs.declared.index.WordPlace.{WordPlace}
 use Rattle.objects.specs.Found.{objectOf}
 use Rattle.objects.specs.Places.{Lies, lies}
-use Rattle.objects.specs.Stores.{Stored, stored-memory}
-use Rattle.objects.specs.Indexed.{countOf, firstOf, indexRest, wordIndex, wordOf}
+use Rattle.objects.specs.Stores.{StoreWritten, stored-memory}
+use Rattle.objects.specs.Indexed.{partCount, partStart, indexRest, wordIndex, wordOf}
 use Rattle.objects.specs.Statuses.{area-is, slots-is, index-ok}
 
 -- ---- the object
@@ -44,25 +44,25 @@ module _ (s : State) (m : Memory) (p : ℕ) (o : Resolved) (e : o ≡ objectOf s
 
   -- ---- word q of a part of it
 
-  first-is : (part : Part) (q : ℕ) → firstOf part o + q ≡ wordIndex part s m p q
+  first-is : (part : Part) (q : ℕ) → partStart part o + q ≡ wordIndex part s m p q
   first-is Slots q = zero-add q
   first-is Data q = index-is q
 
-  pub word-place : (part : Part) (q : ℕ) → record { area = o .area; at = o .at + 1 + (firstOf part o + q) } ≡ wordOf part s m p q
+  pub word-place : (part : Part) (q : ℕ) → record { area = o .area; at = o .at + 1 + (partStart part o + q) } ≡ wordOf part s m p q
   unfolding wordOf
   word-place part q = rw (first-is part q, place-is (wordIndex part s m p q), area-is s m p o e) refl
 
   -- a part ends with the object
-  part-ends : (part : Part) → firstOf part o + countOf part o ≤ o .slots + o .data_words
+  part-ends : (part : Part) → partStart part o + partCount part o ≤ o .slots + o .data_words
   part-ends Slots = omega arith
   part-ends Data = omega arith
 
   -- a part of the object of an accepted call, and a word of the part
-  module _ (g : Good s) (f : fits s m ≡ true) (t : ℕ) (u : UseOk s m t p) (part : Part) (q : ℕ) (h : q < countOf part o) where
-    pub word-low : o .at + 1 + (firstOf part o + q) < 16384
+  module _ (g : Good s) (f : fits s m ≡ true) (t : ℕ) (u : UseOk s m t p) (part : Part) (q : ℕ) (h : q < partCount part o) where
+    pub word-low : o .at + 1 + (partStart part o + q) < 16384
     word-low = omega (arith, object-lies g f t u .low, part-ends part)
 
-    word-inside : o .at + 1 + (firstOf part o + q) < length (storeOf m (o .area))
+    word-inside : o .at + 1 + (partStart part o + q) < length (storeOf m (o .area))
     word-inside = omega (arith, object-lies g f t u .inside, part-ends part)
 
 -- ---- a word that is found: it lies in its store, what is read there, and what a word written there leaves
@@ -82,7 +82,7 @@ module _ (part : Part) (s : State) (m : Memory) (p q : ℕ) (w : WordPlace) (e :
   unfolding wordOf
   word-read = rw e refl
 
-  pub word-written : (v : ℕ) {p′ s′ : List ℕ} → Stored p′ s′ (m .permanent) (m .scratch) (w .area) (set (storeOf m (w .area)) (w .at) v)
+  pub word-written : (v : ℕ) {p′ s′ : List ℕ} → StoreWritten p′ s′ (m .permanent) (m .scratch) (w .area) (set (storeOf m (w .area)) (w .at) v)
       → memoryOf p′ s′ (m .map) ≡ storeAfter s m p (wordIndex part s m p q) v
   unfolding wordOf storeAfter
   word-written v z = stored-memory z (m .map) ∙ rw e refl

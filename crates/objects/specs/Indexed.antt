@@ -16,13 +16,13 @@ use Rattle.objects.specs.declared.index.Indexed.the-variants.{At, Refuse
 use Rattle.objects.specs.Verdict.{Cases, verdictOf}
 
 -- how many words a part of an object has, and which of the words after the header is its first
-abbrev pub countOf : Part → Resolved → ℕ
-countOf Slots o = o .slots
-countOf Data o = o .data_words
+abbrev pub partCount : Part → Resolved → ℕ
+partCount Slots o = o .slots
+partCount Data o = o .data_words
 
-abbrev pub firstOf : Part → Resolved → ℕ
-firstOf Slots o = 0
-firstOf Data o = o .slots
+abbrev pub partStart : Part → Resolved → ℕ
+partStart Slots o = 0
+partStart Data o = o .slots
 
 -- "14: slot or data index not below s or d", after 13 and 5
 abbrev pub indexRest : Part → State → Memory → ℕ → ℕ → ℕ → ℕ

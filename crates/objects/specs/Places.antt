@@ -24,15 +24,15 @@ use Rattle.objects.specs.Found.{objectOf, foundOf, RefusedAs}
 -- ---- the words of an area
 
 -- where the words of area a lie: in its store, and in the map from a bit on
-pub record Within (s : State) (m : Memory) (a : ℕ) : Type 0 where
+pub record AreaWords (s : State) (m : Memory) (a : ℕ) : Type 0 where
   pub used : areaAt s a .used ≤ areaAt s a .size
   pub words : areaAt s a .start + areaAt s a .size ≤ length (storeOf m a)
   pub low : areaAt s a .start + areaAt s a .size ≤ 16384
   pub first : s .lengths .permanent ≤ 16384
   pub bits : pick (isScope a) (s .lengths .permanent) 0 + (areaAt s a .start + areaAt s a .size) ≤ 64 * length (m .map)
 
-pub within : (s : State) (m : Memory) → Good s → fits s m ≡ true → (a : ℕ) → a < 64 → Within s m a
-within s m g f a k =
+pub area-words : (s : State) (m : Memory) → Good s → fits s m ≡ true → (a : ℕ) → a < 64 → AreaWords s m a
+area-words s m g f a k =
     cases (leb 2 a)
     (λ e. let b = rw e at (inside s p a k) in record {
       used = p .used a k;
@@ -168,7 +168,7 @@ pub lies : (s : State) (m : Memory) (h : ℕ) → Good s → fits s m ≡ true �
 unfolding objectOf
 lies s m h g f e =
     let l = live-ok s m h e in
-    let w = within s m g f (areaOf h) (area-lt h) in
+    let w = area-words s m g f (areaOf h) (area-lt h) in
     record {
       area = area-lt h;
       slots = slots-lt (headerAt s m h);

@@ -21,7 +21,7 @@ use Rattle.objects.specs.declared.find.Found.the-variants.{At, Nothing}
 use Rattle.objects.specs.declared.index.Part.{Part}
 use Rattle.objects.specs.declared.index.Part.the-variants.{Slots, Data}
 use Rattle.objects.specs.Found.{objectOf, foundOf}
-use Rattle.objects.specs.Indexed.{countOf, indexRest}
+use Rattle.objects.specs.Indexed.{partCount, indexRest}
 use Rattle.objects.specs.Places.{at-live, nothing-live, object-live}
 use Rattle.objects.specs.Chains.{Chain, chain-none, chain-more}
 
@@ -78,7 +78,7 @@ module _ (s : State) (m : Memory) (t p : ℕ) where
 
 -- both parts have the same chain, over how many words the part has
 index-rest : (part : Part) (s : State) (m : Memory) (t p q : ℕ)
-    → indexRest part s m t p q ≡ useRest s m t p (refuse (leb (countOf part (objectOf s m p)) q) 14 0)
+    → indexRest part s m t p q ≡ useRest s m t p (refuse (leb (partCount part (objectOf s m p)) q) 14 0)
 unfolding slotRest dataRest objectOf
 index-rest Slots s m t p q = refl
 index-rest Data s m t p q = refl
@@ -88,17 +88,17 @@ module _ (part : Part) (s : State) (m : Memory) (t p q : ℕ) where
   index-not-used e h = e ∙ sym (index-rest part s m t p q ∙ use-chain s m t p .stops (λ z. h (e ∙ z)) _)
 
   module _ (z : useRest s m t p 0 ≡ 0) (o : Resolved) (e : o ≡ objectOf s m p) where
-    past-use : refuse (leb (countOf part o) q) 14 0 ≡ indexRest part s m t p q
+    past-use : refuse (leb (partCount part o) q) 14 0 ≡ indexRest part s m t p q
     past-use = rw e (sym (index-rest part s m t p q ∙ use-chain s m t p .passes z _))
 
-    pub index-past : countOf part o ≤ q → 14 ≡ indexRest part s m t p q
-    index-past h = sym (hit (leb (countOf part o) q) 14 0 (le-leb (countOf part o) q h)) ∙ past-use
+    pub index-past : partCount part o ≤ q → 14 ≡ indexRest part s m t p q
+    index-past h = sym (hit (leb (partCount part o) q) 14 0 (le-leb (partCount part o) q h)) ∙ past-use
 
-    pub index-in : q < countOf part o → 0 ≡ indexRest part s m t p q
-    index-in h = sym (skip (leb (countOf part o) q) 14 0 (lt-leb (countOf part o) q h)) ∙ past-use
+    pub index-in : q < partCount part o → 0 ≡ indexRest part s m t p q
+    index-in h = sym (skip (leb (partCount part o) q) 14 0 (lt-leb (partCount part o) q h)) ∙ past-use
 
   -- what an accepted call has passed
-  pub index-ok : indexRest part s m t p q ≡ 0 → UseOk s m t p × (q < countOf part (objectOf s m p))
+  pub index-ok : indexRest part s m t p q ≡ 0 → UseOk s m t p × (q < partCount part (objectOf s m p))
   index-ok z =
       let a = use-ok s m t p _ (sym (index-rest part s m t p q) ∙ z) in
-      (a .0, leb-false (countOf part (objectOf s m p)) q (peel _ _ _ (a .1) .0))
+      (a .0, leb-false (partCount part (objectOf s m p)) q (peel _ _ _ (a .1) .0))

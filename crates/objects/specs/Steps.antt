@@ -22,7 +22,7 @@ use Rattle.tables.specs.Contract.{Ready}
 use Rattle.objects.specs.declared.find.Found.the-variants.{At, Nothing}
 use Rattle.objects.specs.Found.{objectOf, foundOf, endsOf}
 use Rattle.model.proofs.PlacedWords.{supplied-lengths}
-use Rattle.objects.specs.Places.{Within, within, found-at, found-nothing}
+use Rattle.objects.specs.Places.{AreaWords, area-words, found-at, found-nothing}
 
 -- ---- the last step
 
@@ -52,22 +52,22 @@ bit-one l w n = omega arith
 -- ---- the steps
 
 -- what the code has read: the handle's area and offset, and the area's record
-pub record Read (w b : List ℕ) (m : Memory) (h a o : ℕ) (x : Area) : Type 0 where
+pub record HandleRead (w b : List ℕ) (m : Memory) (h a o : ℕ) (x : Area) : Type 0 where
   pub ready : Ready w b
   pub fitting : fits (stateOf w b) m ≡ true
   pub area-is : a ≡ areaOf h
   pub offset-is : o ≡ offsetOf h
   pub record-is : x ≡ areaAt (stateOf w b) a
 
-module _ (w b : List ℕ) (m : Memory) (h a o : ℕ) (x : Area) (d : Read w b m h a o x) where
+module _ (w b : List ℕ) (m : Memory) (h a o : ℕ) (x : Area) (d : HandleRead w b m h a o x) where
   pub offset-low : o < 16384
   offset-low = rw (d .offset-is) (offset-lt h)
 
   here : x ≡ areaAt (stateOf w b) (areaOf h)
   here = d .record-is ∙ ap (areaAt (stateOf w b)) (d .area-is)
 
-  in-area : Within (stateOf w b) m (areaOf h)
-  in-area = within (stateOf w b) m (d .ready .good) (d .fitting) (areaOf h) (area-lt h)
+  in-area : AreaWords (stateOf w b) m (areaOf h)
+  in-area = area-words (stateOf w b) m (d .ready .good) (d .fitting) (areaOf h) (area-lt h)
 
   pub other-generation : (g : ℕ) → g ≡ generationOf h → (g ≡ x .generation → ⊥) → Nothing ≡ foundOf (stateOf w b) m h
   other-generation g e n = found-nothing (stateOf w b) m h (λ l. n (e ∙ l .generation ∙ sym (ap (λ (y : Area). y .generation) here)))

@@ -16,7 +16,7 @@ use denote.Ref.{now}
 use Rattle.tables.specs.Contract.{Cell, Borrowed, memoryOf}
 
 -- the stores p and s, where that of area a has become l
-pub record Stored (p′ s′ p s : List ℕ) (a : ℕ) (l : List ℕ) : Type 0 where
+pub record StoreWritten (p′ s′ p s : List ℕ) (a : ℕ) (l : List ℕ) : Type 0 where
   pub permanent-is : p′ ≡ pick (isScope a) p l
   pub scratch-is : s′ ≡ pick (isScope a) l s
 
@@ -27,26 +27,26 @@ storeIn permanent scratch a = pick (isScope a) (now scratch) (now permanent)
 -- of the two stores that a function is lent, that of area a has changed by f
 abbrev pub Stores : Borrowed → Borrowed → ℕ → (List ℕ → List ℕ) → Type 0
 Stores permanent scratch a f =
-    Stored (now (permanent .exit)) (now (scratch .exit)) (now (permanent .entry)) (now (scratch .entry)) a (f (storeIn (permanent .entry) (scratch .entry) a))
+    StoreWritten (now (permanent .exit)) (now (scratch .exit)) (now (permanent .entry)) (now (scratch .entry)) a (f (storeIn (permanent .entry) (scratch .entry) a))
 
-pub stored-permanent : (p s : List ℕ) (a : ℕ) (f : List ℕ → List ℕ) → a < 2 → Stored (f p) s p s a (f (pick (isScope a) s p))
+pub stored-permanent : (p s : List ℕ) (a : ℕ) (f : List ℕ → List ℕ) → a < 2 → StoreWritten (f p) s p s a (f (pick (isScope a) s p))
 stored-permanent p s a f h = record { permanent-is = rw (lt-leb 2 a h); scratch-is = rw (lt-leb 2 a h) }
 
-pub stored-scratch : (p s : List ℕ) (a : ℕ) (f : List ℕ → List ℕ) → 2 ≤ a → Stored p (f s) p s a (f (pick (isScope a) s p))
+pub stored-scratch : (p s : List ℕ) (a : ℕ) (f : List ℕ → List ℕ) → 2 ≤ a → StoreWritten p (f s) p s a (f (pick (isScope a) s p))
 stored-scratch p s a f h = record { permanent-is = rw (le-leb 2 a h); scratch-is = rw (le-leb 2 a h) }
 
 -- the memory that they make
-pub stored-memory : {p′ s′ p s l : List ℕ} {a : ℕ} → Stored p′ s′ p s a l → (m : List ℕ) → memoryOf p′ s′ m ≡ withStore (memoryOf p s m) a l
+pub stored-memory : {p′ s′ p s l : List ℕ} {a : ℕ} → StoreWritten p′ s′ p s a l → (m : List ℕ) → memoryOf p′ s′ m ≡ withStore (memoryOf p s m) a l
 unfolding withStore
 stored-memory z m = rw (z .permanent-is, z .scratch-is) refl
 
 -- an object that is written: its words in a store, its bits in the map
-pub object-written : (l : List ℕ) (at slots words : ℕ) → slots < 16384 → words < 16384
-    → set (filled l (at + 1) (slots + words) 0) at (headerOf (slots % 16384) (words % 16384)) ≡ objectWords l at slots words
+pub object-written : (l : List ℕ) (at slots dataWords : ℕ) → slots < 16384 → dataWords < 16384
+    → set (filled l (at + 1) (slots + dataWords) 0) at (headerOf (slots % 16384) (dataWords % 16384)) ≡ objectWords l at slots dataWords
 unfolding objectWords
-object-written l at slots words hs hd =
+object-written l at slots dataWords hs hd =
     let es : slots % 16384 ≡ slots = omega arith in
-    let ed : words % 16384 ≡ words = omega arith in
+    let ed : dataWords % 16384 ≡ dataWords = omega arith in
     rw (es, ed, add-one) refl
 
 pub object-marked : (l : List ℕ) (bit n : ℕ) → withBit (cleared l (bit + 1) n) bit ≡ objectBits l bit n

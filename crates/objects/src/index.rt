@@ -5,7 +5,7 @@ use crate::find::Resolved;
 use tables::Bytes;
 use tables::Words;
 ghost use mathlib.Core.Path.{_≡_};
-ghost use Rattle.objects.specs.Indexed.{countOf, firstOf, indexRest};
+ghost use Rattle.objects.specs.Indexed.{partCount, partStart, indexRest};
 ghost use Rattle.objects.specs.Resolving.{Admissible, Indexes};
 
 // The two parts of an object after its header: the slots, then the data words.
@@ -28,7 +28,7 @@ pub enum Indexed {
 
 // How many words a part has.
 fn count(o: Resolved, part: Part) -> u64
-    ensures { λ r. ⌜ r ≡ countOf part o ⌝ }
+    ensures { λ r. ⌜ r ≡ partCount part o ⌝ }
 {
     match part {
         Part::Slots => o.slots,
@@ -38,7 +38,7 @@ fn count(o: Resolved, part: Part) -> u64
 
 // Which of the words after the header is the first of a part.
 fn first(o: Resolved, part: Part) -> u64
-    ensures { λ r. ⌜ r ≡ firstOf part o ⌝ }
+    ensures { λ r. ⌜ r ≡ partStart part o ⌝ }
 {
     match part {
         Part::Slots => 0,

@@ -56,7 +56,7 @@ abbrev pub held : Core → List ℕ → ℕ → List ℕ → ℕ → Held
 held k line len output at = record { core = k; line = line; len = len; output = output; at = at }
 
 -- x holds what feeding leaves of e
-pub record Leaves (e x : Held) (f : Feeding) : Type 0 where
+pub record LeavesFed (e x : Held) (f : Feeding) : Type 0 where
   pub represents : Represents (x .core) (f .world)
   pub buffered : Buffered (x .line) (x .len) (f .line)
   pub at-is : x .at ≡ e .at + length (f .output)
@@ -68,18 +68,18 @@ pub record Feeds (e x : Held) (input : List ℕ) : Type 0 where
   pub sized : length (x .line) ≡ 40
   pub long : length (x .output) ≡ length (e .output)
   pub room : x .at ≤ e .at + 19 * length input
-  pub leaves : (w : World) (l : List ℕ) → Represents (e .core) w → Buffered (e .line) (e .len) l → Leaves e x (fed w l input)
+  pub leaves : (w : World) (l : List ℕ) → Represents (e .core) w → Buffered (e .line) (e .len) l → LeavesFed e x (fed w l input)
 
 -- the end of input does likewise
 pub record Finishes (e x : Held) : Type 0 where
   pub ready : Ready (x .core .words) (x .core .bytes)
   pub room : x .at ≤ e .at + 19
-  pub leaves : (w : World) (l : List ℕ) → Represents (e .core) w → Buffered (e .line) (e .len) l → Leaves e x (finished w l)
+  pub leaves : (w : World) (l : List ℕ) → Represents (e .core) w → Buffered (e .line) (e .len) l → LeavesFed e x (finished w l)
 
 -- ---- laws
 
 leaves-none : (e : Held) (w : World) (l : List ℕ) → Represents (e .core) w → Buffered (e .line) (e .len) l
-    → Leaves e e (record { output = []; world = w; line = l })
+    → LeavesFed e e (record { output = []; world = w; line = l })
 leaves-none e w l s h = record { represents = s; buffered = h; at-is = omega arith; output-is = refl }
 
 pub feeds-none : (e : Held) → Ready (e .core .words) (e .core .bytes) → length (e .line) ≡ 40 → Feeds e e []
@@ -91,7 +91,7 @@ feeds-none e r s = record {
   leaves = λ w l t h. rw (fed-none w l) (leaves-none e w l t h);
 }
 
-leaves-append : (e x y : Held) (f g : Feeding) → Leaves e x f → Leaves x y g → Leaves e y (after (f .output) g)
+leaves-append : (e x y : Held) (f g : Feeding) → LeavesFed e x f → LeavesFed x y g → LeavesFed e y (after (f .output) g)
 leaves-append e x y f g a b = record {
   represents = b .represents;
   buffered = b .buffered;

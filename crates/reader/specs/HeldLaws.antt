@@ -30,7 +30,7 @@ use Rattle.lines.specs.Frames.{parsedOf}
 use Rattle.lines.specs.Lines.{Buffered}
 use Rattle.lines.specs.LineLaws.{buffered-none}
 use Rattle.reader.specs.Feeding.{finished, finished-none, finished-rest, fed-none, fed-end, fed-other}
-use Rattle.reader.specs.Held.{Core, core, Represents, LineAnswered, Ended, Held, held, Leaves, Feeds, Finishes, feeds-append}
+use Rattle.reader.specs.Held.{Core, core, Represents, LineAnswered, Ended, Held, held, LeavesFed, Feeds, Finishes, feeds-append}
 
 -- the world that tables and buffers hold
 represented : (k : Core) (w : World) → Represents k w
@@ -92,7 +92,7 @@ ended k n line len a out at written d e = record {
 
 module _ (k n : Core) (line : List ℕ) (len : ℕ) (out : List ℕ) (at : ℕ) (written : List ℕ) (d : Ended k n line len out at written) where
   leaves-ended : (sized : length line ≡ 40) (w : World) (l : List ℕ) → Represents k w → Buffered line len l
-      → Leaves (held k line len out at) (held n line 0 written (at + 19)) (record { output = lineAnswer w l; world = afterLine w l; line = [] })
+      → LeavesFed (held k line len out at) (held n line 0 written (at + 19)) (record { output = lineAnswer w l; world = afterLine w l; line = [] })
   leaves-ended z w l s h = record {
     represents = d .steps w l s h;
     buffered = buffered-none line z;
@@ -137,14 +137,14 @@ pub finishes-none : (k : Core) (line : List ℕ) (out : List ℕ) → Ready (k .
 finishes-none k line out y = record {
   ready = y;
   room = omega arith;
-  leaves = λ w l s h. subst (λ (x : List ℕ). Leaves (held k line 0 out 0) (held k line 0 out 0) (finished w x)) (sym (empty l h)) (leaves-empty w s (rw (empty l h) at h));
+  leaves = λ w l s h. subst (λ (x : List ℕ). LeavesFed (held k line 0 out 0) (held k line 0 out 0) (finished w x)) (sym (empty l h)) (leaves-empty w s (rw (empty l h) at h));
 }
   where
     empty : (l : List ℕ) → Buffered line 0 l → l ≡ []
     empty [] h = refl
     empty (c ∷ l) h = absurd (omega (arith, h .count))
 
-    leaves-empty : (w : World) → Represents k w → Buffered line 0 [] → Leaves (held k line 0 out 0) (held k line 0 out 0) (finished w [])
+    leaves-empty : (w : World) → Represents k w → Buffered line 0 [] → LeavesFed (held k line 0 out 0) (held k line 0 out 0) (finished w [])
     leaves-empty w s h = rw (finished-none w) (record { represents = s; buffered = h; at-is = refl; output-is = refl })
 
 empty-count : (line : List ℕ) (len : ℕ) → Buffered line len [] → len ≡ 0

@@ -12,7 +12,7 @@ use Rattle.reader.specs.Output.{firstWorld, outputOf}
 use Rattle.lines.specs.Lines.{Buffered}
 use Rattle.lines.specs.LineLaws.{buffered-none}
 use Rattle.reader.specs.Feeding.{Feeding, fed, finished, fedAll, joined, fed-output}
-use Rattle.reader.specs.Held.{Core, Represents, Held, held, Leaves, Feeds, Finishes}
+use Rattle.reader.specs.Held.{Core, Represents, Held, held, LeavesFed, Feeds, Finishes}
 
 -- Chunk after chunk: each is fed to what the one before it left, with an output that has room for it and is written as far as it goes.
 pub data FedChunks : Core → List ℕ → ℕ → List (List ℕ) → List ℕ → Core → List ℕ → ℕ → Type 0 where
@@ -27,7 +27,7 @@ pub data FedChunks : Core → List ℕ → ℕ → List (List ℕ) → List ℕ 
 take-sets : (l o : List ℕ) → length o ≤ length l → take (length o) (sets l 0 o) ≡ o
 take-sets l o h = ap (take (length o)) (sets-eq o l 0 (omega arith)) ∙ take-append-seam o (drop (0 + length o) l)
 
-written-part : (e x : Held) (f : Feeding) → e .at ≡ 0 → x .at ≤ length (e .output) → Leaves e x f → take (x .at) (x .output) ≡ f .output
+written-part : (e x : Held) (f : Feeding) → e .at ≡ 0 → x .at ≤ length (e .output) → LeavesFed e x f → take (x .at) (x .output) ≡ f .output
 written-part e x f z h v =
     let n : x .at ≡ length (f .output) = omega (arith, v .at-is) in
     rw (n, v .output-is, z) (take-sets (e .output) (f .output) (omega arith))

@@ -9,7 +9,7 @@ use Rattle.model.specs.State.{State, Memory}
 use Rattle.tables.specs.Laws.{area-read}
 use Rattle.tables.specs.Contract.{stateIn, memoryIn}
 use Rattle.objects.specs.Places.{refused-as}
-use Rattle.objects.specs.Steps.{Read, offset-low, other-generation, past-used, word-low, bit-low, word-in, bit-in, no-bit, ends}
+use Rattle.objects.specs.Steps.{HandleRead, offset-low, other-generation, past-used, word-low, bit-low, word-in, bit-in, no-bit, ends}
 use Rattle.objects.proofs.find.lookup.Statement.{statement}
 use Rattle.objects.proofs.find.lookup.Tie as tie
 
@@ -29,7 +29,7 @@ state c = stateIn (start c .args .words) (start c .args .bytes)
 abbrev memory : tie.After-area-at → Memory
 memory c = memoryIn (start c .args .permanent) (start c .args .scratch) (start c .args .map)
 
-read : (c : tie.After-area-at) → Read (now (start c .args .words)) (now (start c .args .bytes)) (memory c) (start c .args .handle) (c .before .before .area .result) (c .before .offset .result) (c .area-at .result)
+read : (c : tie.After-area-at) → HandleRead (now (start c .args .words)) (now (start c .args .bytes)) (memory c) (start c .args .handle) (c .before .before .area .result) (c .before .offset .result) (c .area-at .result)
 read c = record {
   ready = start c .pre .0;
   fitting = start c .pre .1;

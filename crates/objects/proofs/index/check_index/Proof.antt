@@ -10,7 +10,7 @@ use Rattle.tables.specs.Contract.{stateIn, memoryIn}
 use Rattle.objects.specs.Found.{objectOf}
 use Rattle.objects.specs.Checked.{checked-passed, checked-refused}
 use Rattle.objects.specs.Verdict.{passed-verdict, stopped-verdict}
-use Rattle.objects.specs.Indexed.{countOf, firstOf, indexed-cases}
+use Rattle.objects.specs.Indexed.{partCount, partStart, indexed-cases}
 use Rattle.objects.specs.Statuses.{index-not-used, index-past, index-in}
 use Rattle.objects.specs.Effects.{word-low, word-place}
 use Rattle.objects.proofs.index.check_index.Statement.{statement}
@@ -33,10 +33,10 @@ used : (c : tie.After-known-told2) → (useRest (state (past c)) (memory (past c
 used c = checked-passed _ (sym (c .before .o .given .1) ∙ past c .check-object .ensures)
 
 -- an index within the part, and its word
-within : (c : tie.Else1) → start (past (c .before .before)) .args .q < countOf (start (past (c .before .before)) .args .part) (c .before .before .before .o .given .0 .0)
+within : (c : tie.Else1) → start (past (c .before .before)) .args .q < partCount (start (past (c .before .before)) .args .part) (c .before .before .before .o .given .0 .0)
 within c = omega (arith, c .if1 .left, c .before .count .ensures)
 
-low : (c : tie.Else1) → c .before .before .before .o .given .0 .0 .at + 1 + (firstOf (start (past (c .before .before)) .args .part) (c .before .before .before .o .given .0 .0) + start (past (c .before .before)) .args .q) < 16384
+low : (c : tie.Else1) → c .before .before .before .o .given .0 .0 .at + 1 + (partStart (start (past (c .before .before)) .args .part) (c .before .before .before .o .given .0 .0) + start (past (c .before .before)) .args .q) < 16384
 low c =
     let d = c .before .before in
     let i = start (past d) in
