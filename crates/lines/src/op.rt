@@ -1,6 +1,9 @@
 // The table of ops, as a line has it.
+use model::MemoryOp;
 use model::Op;
 use model::Opcode;
+use model::QuestionOp;
+use model::StateOp;
 ghost use mathlib.Core.Path.{_≡_};
 ghost use Rattle.model.specs.Ops.{opOf};
 
@@ -9,16 +12,16 @@ pub fn op_of(number: u64) -> Opcode
     ensures { λ r. ⌜ r ≡ opOf number ⌝ }
 {
     match number {
-        0x01 => Opcode::Known(Op::Start, true, false, false),
-        0x02 => Opcode::Known(Op::End, false, false, false),
-        0x03 => Opcode::Known(Op::Make, false, true, true),
-        0x04 => Opcode::Known(Op::Enter, false, true, false),
-        0x05 => Opcode::Known(Op::Exit, false, false, false),
-        0x06 => Opcode::Known(Op::Allocate, false, true, true),
-        0x07 => Opcode::Known(Op::Store, true, true, true),
-        0x08 => Opcode::Known(Op::Load, true, true, false),
-        0x09 => Opcode::Known(Op::Write, true, true, true),
-        0x0a => Opcode::Known(Op::Read, true, true, false),
+        0x01 => Opcode::Known(Op::State(StateOp::Start), true, false, false),
+        0x02 => Opcode::Known(Op::State(StateOp::End), false, false, false),
+        0x03 => Opcode::Known(Op::State(StateOp::Make), false, true, true),
+        0x04 => Opcode::Known(Op::State(StateOp::Enter), false, true, false),
+        0x05 => Opcode::Known(Op::State(StateOp::Exit), false, false, false),
+        0x06 => Opcode::Known(Op::Memory(MemoryOp::Allocate), false, true, true),
+        0x07 => Opcode::Known(Op::Memory(MemoryOp::Store), true, true, true),
+        0x08 => Opcode::Known(Op::Question(QuestionOp::Load), true, true, false),
+        0x09 => Opcode::Known(Op::Memory(MemoryOp::Write), true, true, true),
+        0x0a => Opcode::Known(Op::Question(QuestionOp::Read), true, true, false),
         _ => Opcode::Unknown,
     }
 }

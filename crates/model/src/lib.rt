@@ -20,18 +20,33 @@ pub struct Lengths {
     pub map: u64,
 }
 
-// The ops, 01 to 0a.
-pub enum Op {
+// The ops that touch no lent word.
+pub enum StateOp {
     Start,
     End,
     Make,
     Enter,
     Exit,
+}
+
+// The ops that write lent words.
+pub enum MemoryOp {
     Allocate,
     Store,
-    Load,
     Write,
+}
+
+// The ops that change nothing.
+pub enum QuestionOp {
+    Load,
     Read,
+}
+
+// The ops, 01 to 0a, by what they may touch.
+pub enum Op {
+    State(StateOp),
+    Memory(MemoryOp),
+    Question(QuestionOp),
 }
 
 // What the number of an op stands for: an op, and whether it uses the fields p, q and r.

@@ -6,6 +6,10 @@ use tables::Words;
 ghost use Rattle.model.specs.Ops.{callOf};
 ghost use Rattle.tables.specs.Contract.{Usable, Answers};
 
+mod state; // state.rt: the ops that touch no lent word
+mod memory; // memory.rt: the ops that write lent words
+mod question; // question.rt: the ops that change nothing
+
 // The answer, the tables and the buffers are those of the call's definition.
 pub fn carry_out(
     words: &mut Words,
@@ -23,15 +27,19 @@ pub fn carry_out(
     ensures { λ a. ⌜ Answers a words bytes permanent scratch map (callOf op t p q r) ⌝ }
 {
     match op {
-        Op::Start => threads::start(words, bytes, permanent, scratch, map, t, p),
-        Op::End => threads::end(words, bytes, permanent, scratch, map, t),
-        Op::Make => areas::make::make(words, bytes, permanent, scratch, map, t, q, r),
-        Op::Enter => entry::enter(words, bytes, permanent, scratch, map, t, q),
-        Op::Exit => exit::exit(words, bytes, permanent, scratch, map, t),
-        Op::Allocate => allocation::allocate(words, bytes, permanent, scratch, map, t, q, r),
-        Op::Store => references::store(words, bytes, permanent, scratch, map, t, p, q, r),
-        Op::Load => references::load(words, bytes, permanent, scratch, map, t, p, q),
-        Op::Write => data::write(words, bytes, permanent, scratch, map, t, p, q, r),
-        Op::Read => data::read(words, bytes, permanent, scratch, map, t, p, q)
+        Op::State(o) => state::carry_state(words, bytes, permanent, scratch, map, o, t, p, q, r),
+        Op::Memory(o) => memory::carry_memory(words, bytes, permanent, scratch, map, o, t, p, q, r),
+        Op::Question(o) => question::carry_question(
+            words,
+            bytes,
+            permanent,
+            scratch,
+            map,
+            o,
+            t,
+            p,
+            q,
+            r,
+        )
     }
 }

@@ -6,21 +6,6 @@ use borrow.Author.Needs.{needs}
 use Rattle.lines.proofs.answer.write_answer.Statement.{statement}
 use Rattle.lines.proofs.answer.write_answer.Tie as tie
 
-write-digits-requires : tie.Need-write-digits-requires
-write-digits-requires c κs = search needs
-
-add-write-digits : tie.Need-add-write-digits
-add-write-digits c = search needs
-
-write-digits-requires-2 : tie.Need-write-digits-requires-2
-write-digits-requires-2 c κs = search needs
-
-add-output : tie.Need-add-output
-add-output c = search needs
-
-slice-write-output : tie.Need-slice-write-output
-slice-write-output c = search needs
-
 same-length : tie.Need-same-length
 same-length c =
     simp length-set (c .before .before .write-digits2 .kept .0 ∙ c .before .before .before .before .before .before .write-digits .kept .0)
@@ -33,10 +18,10 @@ pub write-answer-spec : {M : Type 1} → statement M
 write-answer-spec =
     tie.close
     (tie.spec
-    write-digits-requires
-    add-write-digits
-    write-digits-requires-2
-    add-output
-    slice-write-output
+    (λ c κs. search needs)
+    (λ c. search needs)
+    (λ c κs. search needs)
+    (λ c. search needs)
+    (λ c. search needs)
     same-length
     returns)

@@ -16,25 +16,10 @@ abbrev μ-loop : tie.MeasureT-loop
 loop-holds : tie.Need-loop-holds Inv-loop μ-loop
 loop-holds c = (c .before .pre, lowest-none _ _ _ _)
 
-sub-i : tie.Need-sub-i Inv-loop μ-loop
-sub-i c = search needs
-
-cast-digit-of : tie.Need-cast-digit-of Inv-loop μ-loop
-cast-digit-of c = search needs
-
-digit-of-requires : tie.Need-digit-of-requires Inv-loop μ-loop
-digit-of-requires c κs = search needs
-
-add-output : tie.Need-add-output Inv-loop μ-loop
-add-output c = search needs
-
 slice-write-output : tie.Need-slice-write-output Inv-loop μ-loop
 slice-write-output c =
     let l = c .before .before .loop in
     omega (arith, l .inv .1 .within, lowest-length _ _ _ _ _ _ _ (l .inv .1))
-
-loop-less : tie.Need-loop-less Inv-loop μ-loop
-loop-less c = search needs
 
 loop-again : tie.Need-loop-again Inv-loop μ-loop
 loop-again c =
@@ -54,12 +39,12 @@ write-digits-spec =
     Inv-loop
     μ-loop
     loop-holds
-    sub-i
-    cast-digit-of
-    digit-of-requires
-    add-output
+    (λ c. search needs)
+    (λ c. search needs)
+    (λ c κs. search needs)
+    (λ c. search needs)
     slice-write-output
-    loop-less
+    (λ c. search needs)
     loop-again
     same-length
     returns)

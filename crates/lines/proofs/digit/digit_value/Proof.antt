@@ -9,21 +9,15 @@ use Rattle.lines.proofs.digit.digit_value.Tie as tie
 sub-result : tie.Need-sub-result
 sub-result c = ⊎-elim (λ h. omega (arith, h .0)) (λ h. omega (arith, h .0)) (digit-is _ (c .before .pre))
 
-cast-result : tie.Need-cast-result
-cast-result c = search needs
-
 returns : tie.Need-returns
 returns c = low-value _ (search needs)
 
 sub-result-2 : tie.Need-sub-result-2
 sub-result-2 c = ⊎-elim (λ h. omega (arith, h .1)) (λ h. omega (arith, h .0)) (digit-is _ (c .before .pre))
 
-cast-result-2 : tie.Need-cast-result-2
-cast-result-2 c = search needs
-
 returns-2 : tie.Need-returns-2
 returns-2 c = high-value _ (search needs)
 
 pub digit-value-spec : {M : Type 1} → statement M
 digit-value-spec =
-    tie.close (tie.spec sub-result cast-result returns sub-result-2 cast-result-2 returns-2)
+    tie.close (tie.spec sub-result (λ c. search needs) returns sub-result-2 (λ c. search needs) returns-2)

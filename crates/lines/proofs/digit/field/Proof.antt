@@ -24,12 +24,6 @@ mul-value c =
     let l = c .before .loop in
     record { fits = omega (arith, field-fits (l .inv .2) (l .i) (c .loop-test .taken)) }
 
-add-digit-value : tie.Need-add-digit-value Inv-loop μ-loop
-add-digit-value c = search needs
-
-element-copy-out-digit-value : tie.Need-element-copy-out-digit-value Inv-loop μ-loop
-element-copy-out-digit-value c = search needs
-
 digit-value-requires : tie.Need-digit-value-requires Inv-loop μ-loop
 digit-value-requires c κs = field-digit (c .before .before .loop .inv .2) (c .before .before .loop .i) (c .before .loop-test .taken)
 
@@ -37,12 +31,6 @@ add-value : tie.Need-add-value Inv-loop μ-loop
 add-value c =
     let l = c .before .before .before .loop in
     record { fits = omega (arith, field-fits (l .inv .2) (l .i) (c .before .before .loop-test .taken), c .digit-value .ensures) }
-
-add-i : tie.Need-add-i Inv-loop μ-loop
-add-i c = search needs
-
-loop-less : tie.Need-loop-less Inv-loop μ-loop
-loop-less c = search needs
 
 loop-again : tie.Need-loop-again Inv-loop μ-loop
 loop-again c =
@@ -64,11 +52,11 @@ field-spec =
     μ-loop
     loop-holds
     mul-value
-    add-digit-value
-    element-copy-out-digit-value
+    (λ c. search needs)
+    (λ c. search needs)
     digit-value-requires
     add-value
-    add-i
-    loop-less
+    (λ c. search needs)
+    (λ c. search needs)
     loop-again
     returns)

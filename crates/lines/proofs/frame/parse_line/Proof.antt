@@ -10,9 +10,6 @@ use Rattle.lines.proofs.frame.parse_line.Tie as tie
 returns : tie.Need-returns
 returns c = λ l h. other-length h (c .if1 .taken)
 
-all-digits-requires : tie.Need-all-digits-requires
-all-digits-requires c κs = search needs
-
 returns-2 : tie.Need-returns-2
 returns-2 c = λ l h. no-digits h (c .before .before .if1 .left) (sym (c .before .all-digits .ensures) ∙ not-true _ (c .if2 .taken))
 
@@ -20,15 +17,6 @@ field-requires : tie.Need-field-requires
 field-requires c κs =
     let d = sym (c .before .all-digits .ensures) ∙ not-false _ (c .if2 .left) in
     record { sized = c .before .before .before .pre; within = search needs; short = search needs; digits = d }
-
-op-of-requires : tie.Need-op-of-requires
-op-of-requires c κs = search needs
-
-enum-known-op : tie.Need-enum-known-op
-enum-known-op c = search needs
-
-enum-told : tie.Need-enum-told
-enum-told c = search needs
 
 returns-3 : tie.Need-returns-3
 returns-3 c = λ l h.
@@ -41,9 +29,6 @@ read-fields-requires : tie.Need-read-fields-requires
 read-fields-requires c κs =
     let b = c .before .before .before .before .before in
     (b .before .before .before .pre, sym (b .before .all-digits .ensures) ∙ not-false _ (b .if2 .left))
-
-unused-zero-requires : tie.Need-unused-zero-requires
-unused-zero-requires c κs = search needs
 
 returns-4 : tie.Need-returns-4
 returns-4 c = λ l h.
@@ -68,14 +53,14 @@ parse-line-spec =
     tie.close
     (tie.spec
     returns
-    all-digits-requires
+    (λ c κs. search needs)
     returns-2
     field-requires
-    op-of-requires
-    enum-known-op
-    enum-told
+    (λ c κs. search needs)
+    (λ c. search needs)
+    (λ c. search needs)
     returns-3
     read-fields-requires
-    unused-zero-requires
+    (λ c κs. search needs)
     returns-4
     returns-5)

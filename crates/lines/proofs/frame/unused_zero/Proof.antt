@@ -6,14 +6,8 @@ use borrow.Author.Needs.{needs}
 use Rattle.lines.proofs.frame.unused_zero.Statement.{statement}
 use Rattle.lines.proofs.frame.unused_zero.Tie as tie
 
-used-or-zero-requires : tie.Need-used-or-zero-requires
-used-or-zero-requires c κs = search needs
-
 returns : tie.Need-returns
 returns c = p-not-zero _ _ _ _ (sym (c .before .used-or-zero .ensures) ∙ not-true _ (c .if1 .taken))
-
-used-or-zero-requires-2 : tie.Need-used-or-zero-requires-2
-used-or-zero-requires-2 c κs = search needs
 
 returns-2 : tie.Need-returns-2
 returns-2 c =
@@ -21,9 +15,6 @@ returns-2 c =
     q-not-zero _ _ _ _
     (sym (p .before .used-or-zero .ensures) ∙ not-false _ (p .if1 .left))
     (sym (c .before .used-or-zero2 .ensures) ∙ not-true _ (c .if2 .taken))
-
-used-or-zero-requires-3 : tie.Need-used-or-zero-requires-3
-used-or-zero-requires-3 c κs = search needs
 
 returns-3 : tie.Need-returns-3
 returns-3 c =
@@ -38,9 +29,9 @@ pub unused-zero-spec : {M : Type 1} → statement M
 unused-zero-spec =
     tie.close
     (tie.spec
-    used-or-zero-requires
+    (λ c κs. search needs)
     returns
-    used-or-zero-requires-2
+    (λ c κs. search needs)
     returns-2
-    used-or-zero-requires-3
+    (λ c κs. search needs)
     returns-3)

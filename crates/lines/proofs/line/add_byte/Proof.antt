@@ -7,14 +7,8 @@ use Rattle.lines.proofs.line.add_byte.Tie as tie
 returns : tie.Need-returns
 returns c = (search needs, λ l h. buffered-full _ _ l _ h (c .if1 .taken))
 
-element-write-line : tie.Need-element-write-line
-element-write-line c = search needs
-
-add-result : tie.Need-add-result
-add-result c = search needs
-
 returns-2 : tie.Need-returns-2
 returns-2 c = (search needs, λ l h. buffered-more _ _ l _ h (c .if1 .left))
 
 pub add-byte-spec : {M : Type 1} → statement M
-add-byte-spec = tie.close (tie.spec returns element-write-line add-result returns-2)
+add-byte-spec = tie.close (tie.spec returns (λ c. search needs) (λ c. search needs) returns-2)

@@ -29,9 +29,6 @@ loop-holds c =
     let p = c .before .before .before .before .before .pre in
     (omega arith, p .2, refl, refl, refl, feeds-none _ (p .0) (p .1))
 
-shared-slice-read-feed-byte : tie.Need-shared-slice-read-feed-byte Inv-loop μ-loop
-shared-slice-read-feed-byte c = search needs
-
 feed-byte-requires : tie.Need-feed-byte-requires Inv-loop μ-loop
 feed-byte-requires c κs =
     let l = c .before .before .before .before .before .before .before .before in
@@ -81,7 +78,7 @@ feed-spec =
     Inv-loop
     μ-loop
     loop-holds
-    shared-slice-read-feed-byte
+    (λ c. search needs)
     feed-byte-requires
     add-i
     loop-less
