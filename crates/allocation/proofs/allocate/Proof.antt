@@ -24,28 +24,10 @@ memory c = memoryIn (start c .args .permanent) (start c .args .scratch) (start c
 abbrev call : tie.After-lengths-fit → calls.Call
 call c = calls.allocate (start c .args .t) (start c .args .slots) (start c .args .data-words)
 
-same-length : tie.Need-same-length
-same-length c = search needs
-
-same-length-2 : tie.Need-same-length-2
-same-length-2 c = search needs
-
-same-length-3 : tie.Need-same-length-3
-same-length-3 c = search needs
-
 returns : tie.Need-returns
 returns c =
     let d = c .before in
     answered-refused _ _ (memory d) (call d) (start d .pre) (sym (unfit-fitted _ _ (unfit _ _ (d .lengths-fit .ensures) (c .if1 .taken)) _)) (λ z. omega arith)
-
-same-length-4 : tie.Need-same-length-4
-same-length-4 c = search needs
-
-same-length-5 : tie.Need-same-length-5
-same-length-5 c = search needs
-
-same-length-6 : tie.Need-same-length-6
-same-length-6 c = search needs
 
 returns-2 : tie.Need-returns-2
 returns-2 c =
@@ -61,15 +43,6 @@ apply-allocate-requires c κs =
     let d = e .before in
     ((start d .pre, fit _ _ (d .lengths-fit .ensures) (e .if1 .left)), sym (k .check-allocate .ensures) ∙ c .before .before .before .before .if2 .left)
 
-same-length-7 : tie.Need-same-length-7
-same-length-7 c = search needs
-
-same-length-8 : tie.Need-same-length-8
-same-length-8 c = search needs
-
-same-length-9 : tie.Need-same-length-9
-same-length-9 c = search needs
-
 returns-3 : tie.Need-returns-3
 returns-3 c =
     let k = c .before .before .before .before .before .before .before .before .before .before .before .before in
@@ -84,18 +57,6 @@ pub allocate-spec : {M : Type 1} → statement M
 allocate-spec =
     tie.close
     (tie.spec
-    (λ c κs. search needs)
-    same-length
-    same-length-2
-    same-length-3
-    returns
-    (λ c κs. search needs)
-    same-length-4
-    same-length-5
-    same-length-6
-    returns-2
-    apply-allocate-requires
-    same-length-7
-    same-length-8
-    same-length-9
-    returns-3)
+    (λ c κs. search needs) (λ c. search needs) (λ c. search needs) (λ c. search needs) returns
+    (λ c κs. search needs) (λ c. search needs) (λ c. search needs) (λ c. search needs) returns-2
+    apply-allocate-requires (λ c. search needs) (λ c. search needs) (λ c. search needs) returns-3)

@@ -57,9 +57,6 @@ top-entry-requires c κs =
     let i = c .before .before .before .before in
     (i .pre .0 .0, allocate-ok _ _ _ _ (i .pre .1) .called .thread)
 
-cast-area : tie.Need-cast-area
-cast-area c = search needs
-
 area-at-requires : tie.Need-area-at-requires
 area-at-requires c κs = low c
 
@@ -100,18 +97,6 @@ put-object-requires c κs =
       fits d,
     )
 
-pack-requires : tie.Need-pack-requires
-pack-requires c κs = search needs
-
-same-length : tie.Need-same-length
-same-length c = search needs
-
-same-length-2 : tie.Need-same-length-2
-same-length-2 c = search needs
-
-same-length-3 : tie.Need-same-length-3
-same-length-3 c = search needs
-
 returns : tie.Need-returns
 returns c =
     let l = c .before .before .before .before .before in
@@ -128,7 +113,7 @@ apply-allocate-spec =
     tie.close
     (tie.spec
     top-entry-requires
-    cast-area
+    (λ c. search needs)
     area-at-requires
     add-used
     add-used-2
@@ -139,8 +124,8 @@ apply-allocate-spec =
     add-mark-object
     mark-object-requires
     put-object-requires
-    pack-requires
-    same-length
-    same-length-2
-    same-length-3
+    (λ c κs. search needs)
+    (λ c. search needs)
+    (λ c. search needs)
+    (λ c. search needs)
     returns)

@@ -59,9 +59,6 @@ top-entry-requires c κs = (start c .pre, called c .thread)
 has-right-requires : tie.Need-has-right-requires
 has-right-requires c κs = called (c .before) .thread
 
-cast-area-at : tie.Need-cast-area-at
-cast-area-at c = search needs
-
 area-at-requires : tie.Need-area-at-requires
 area-at-requires c κs = low (c .before)
 
@@ -79,9 +76,6 @@ returns-3 : tie.Need-returns-3
 returns-3 c =
     let u = used (c .before .before .before) in
     allocate-no-room _ _ _ _ (called (c .before .before .before .before .before .before)) (granted (c .before)) _ (area (c .before .before .before)) (omega arith)
-
-sub-if4 : tie.Need-sub-if4
-sub-if4 c = search needs
 
 returns-4 : tie.Need-returns-4
 returns-4 c =
@@ -102,11 +96,11 @@ check-allocate-spec =
     top-entry-requires
     (λ c. search needs)
     has-right-requires
-    cast-area-at
+    (λ c. search needs)
     area-at-requires
     sub-room
     returns-2
     returns-3
-    sub-if4
+    (λ c. search needs)
     returns-4
     returns-5)

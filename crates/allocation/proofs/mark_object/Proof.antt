@@ -6,18 +6,6 @@ use Rattle.objects.specs.Stores.{object-marked}
 use Rattle.allocation.proofs.mark_object.Statement.{statement}
 use Rattle.allocation.proofs.mark_object.Tie as tie
 
-add-clear-bits : tie.Need-add-clear-bits
-add-clear-bits c = search needs
-
-clear-bits-requires : tie.Need-clear-bits-requires
-clear-bits-requires c κs = search needs
-
-set-bit-requires : tie.Need-set-bit-requires
-set-bit-requires c κs = search needs
-
-same-length : tie.Need-same-length
-same-length c = search needs
-
 returns : tie.Need-returns
 returns c =
     let a = c .before .before .before .before .before .before .before .before .before .args in
@@ -25,4 +13,6 @@ returns c =
 
 pub mark-object-spec : {M : Type 1} → statement M
 mark-object-spec =
-    tie.close (tie.spec add-clear-bits clear-bits-requires set-bit-requires same-length returns)
+    tie.close
+    (tie.spec
+    (λ c. search needs) (λ c κs. search needs) (λ c κs. search needs) (λ c. search needs) returns)

@@ -12,9 +12,6 @@ use Rattle.allocation.proofs.put_object.Tie as tie
 write-object-requires : tie.Need-write-object-requires
 write-object-requires c κs = rw (lt-leb 2 (c .before .before .before .before .args .area) (c .before .if1 .taken)) at (c .before .before .before .before .pre)
 
-same-length : tie.Need-same-length
-same-length c = search needs
-
 returns : tie.Need-returns
 returns c =
     let a = c .before .before .before .before .before .before .before .args in
@@ -23,9 +20,6 @@ returns c =
 
 write-object-requires-2 : tie.Need-write-object-requires-2
 write-object-requires-2 c κs = rw (le-leb 2 (c .before .before .before .before .args .area) (c .before .if1 .left)) at (c .before .before .before .before .pre)
-
-same-length-2 : tie.Need-same-length-2
-same-length-2 c = search needs
 
 returns-2 : tie.Need-returns-2
 returns-2 c =
@@ -37,9 +31,5 @@ pub put-object-spec : {M : Type 1} → statement M
 put-object-spec =
     tie.close
     (tie.spec
-    write-object-requires
-    same-length
-    returns
-    write-object-requires-2
-    same-length-2
-    returns-2)
+    write-object-requires (λ c. search needs) returns
+    write-object-requires-2 (λ c. search needs) returns-2)

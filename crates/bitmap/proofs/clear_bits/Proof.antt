@@ -25,9 +25,6 @@ add-run-length c = omega arith
 sub-run-length : tie.Need-sub-run-length Inv-loop μ-loop
 sub-run-length c = omega arith
 
-run-length-requires : tie.Need-run-length-requires Inv-loop μ-loop
-run-length-requires c κs = search needs
-
 add-clear-run : tie.Need-add-clear-run Inv-loop μ-loop
 add-clear-run c = omega arith
 
@@ -60,16 +57,5 @@ pub clear-bits-spec : {M : Type 1} → statement M
 clear-bits-spec =
     tie.close
     (tie.spec
-    Inv-loop
-    μ-loop
-    loop-holds
-    add-run-length
-    sub-run-length
-    run-length-requires
-    add-clear-run
-    clear-run-requires
-    add-i
-    loop-less
-    loop-again
-    same-length
-    returns)
+    Inv-loop μ-loop loop-holds add-run-length sub-run-length (λ c κs. search needs) add-clear-run clear-run-requires add-i loop-less
+    loop-again same-length returns)

@@ -41,9 +41,6 @@ answer-chunk-requires c κs =
       (r .ensures .0, write-enough _ _ _ h (omega (arith, v .3, r .kept .0, r .ensures .0 .0)) (r .ensures .1)),
     )
 
-goes-on-requires : tie.Need-goes-on-requires Inv-loop μ-loop
-goes-on-requires c κs = search needs
-
 loop-less : tie.Need-loop-less Inv-loop μ-loop
 loop-less c = round-less _ _ _ _ _ (c .before .before .before .before .before .before .before .before .before .before .before .before .before .before .before .before .before .before .before .before .before .before .before .loop .inv .10 .on (c .before .before .before .before .before .before .before .before .before .before .before .before .before .before .before .before .before .before .before .before .before .before .loop-test .taken) .1) (c .before .before .before .before .before .before .before .before .before .before .before .before .before .before .before .before .before .before .before .read-chunk .ensures .1) (c .before .before .before .before .before .before .before .answer-chunk .ensures .1)
 
@@ -112,22 +109,6 @@ pub answer-all-spec : {M : Type 1} → statement M
 answer-all-spec =
     tie.close
     (tie.spec
-    Inv-loop
-    μ-loop
-    loop-holds
-    read-chunk-requires
-    answer-chunk-requires
-    goes-on-requires
-    loop-less
-    loop-again
-    same-length
-    same-length-2
-    same-length-3
-    same-length-4
-    returns
-    answer-rest-requires
-    same-length-5
-    same-length-6
-    same-length-7
-    same-length-8
-    returns-2)
+    Inv-loop μ-loop loop-holds read-chunk-requires answer-chunk-requires (λ c κs. search needs) loop-less loop-again same-length
+    same-length-2 same-length-3 same-length-4 returns
+    answer-rest-requires same-length-5 same-length-6 same-length-7 same-length-8 returns-2)

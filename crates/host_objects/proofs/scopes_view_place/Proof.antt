@@ -6,9 +6,6 @@ use Rattle.views.specs.ViewAnswers.{place-shows, place-tells}
 use Rattle.host_objects.proofs.scopes_view_place.Statement.{statement}
 use Rattle.host_objects.proofs.scopes_view_place.Tie as tie
 
-view-place-requires : tie.Need-view-place-requires
-view-place-requires c κs = search needs
-
 returns : tie.Need-returns
 returns c =
     let o = c .before .before .before .before in
@@ -23,4 +20,4 @@ returns c =
     )
 
 pub scopes-view-place-spec : {M : Type 1} → statement M
-scopes-view-place-spec = tie.close (tie.spec view-place-requires returns)
+scopes-view-place-spec = tie.close (tie.spec (λ c κs. search needs) returns)

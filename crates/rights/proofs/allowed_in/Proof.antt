@@ -43,30 +43,6 @@ returns-2 : tie.Need-returns-2
 unfolding allows
 returns-2 c = simp (ne-eqb _ 0 (c .before .if1 .left), lt-ltb 3 _ (c .if2 .taken))
 
-sub-row : tie.Need-sub-row
-sub-row c = search needs
-
-class-index-requires : tie.Need-class-index-requires
-class-index-requires c κs = search needs
-
-right-index-requires : tie.Need-right-index-requires
-right-index-requires c κs = search needs
-
-mul-result : tie.Need-mul-result
-mul-result c = search needs
-
-mul-result-2 : tie.Need-mul-result-2
-mul-result-2 c = search needs
-
-add-result : tie.Need-add-result
-add-result c = search needs
-
-add-result-2 : tie.Need-add-result-2
-add-result-2 c = search needs
-
-array-read-result : tie.Need-array-read-result
-array-read-result c = search needs
-
 -- here antt computes the 36 entries and compares them with the code's table
 returns-3 : tie.Need-returns-3
 unfolding entry rightDigit rightsRows allows
@@ -84,12 +60,5 @@ allowed-in-spec =
     (tie.spec
     returns
     returns-2
-    sub-row
-    class-index-requires
-    right-index-requires
-    mul-result
-    mul-result-2
-    add-result
-    add-result-2
-    array-read-result
-    returns-3)
+    (λ c. search needs) (λ c κs. search needs) (λ c κs. search needs) (λ c. search needs) (λ c. search needs) (λ c. search needs)
+    (λ c. search needs) (λ c. search needs) returns-3)

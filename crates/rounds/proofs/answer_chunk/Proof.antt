@@ -8,27 +8,12 @@ use borrow.Author.Needs.{needs}
 use Rattle.rounds.proofs.answer_chunk.Statement.{statement}
 use Rattle.rounds.proofs.answer_chunk.Tie as tie
 
-slice-aggregate-feed : tie.Need-slice-aggregate-feed
-slice-aggregate-feed c = search needs
-
-feed-requires : tie.Need-feed-requires
-feed-requires c κs = search needs
-
 write-answers-requires : tie.Need-write-answers-requires
 write-answers-requires c κs =
     let f = c .before .before .before .before .before .before .before .before .feed in
     let p = c .before .before .before .before .before .before .before .before .before .before .before .before .before .before .before .before .before .before .before .before .before .pre in
     let h : f .result .written ≤ length (f .last .1 .1 .1 .1 .1 .1 .1 .1 .0) = omega (arith, f .ensures .room, f .ensures .long, p .0 .2, p .1 .0 .0, p .1 .0 .1) in
     ((h, sym (length-take-le (f .result .written) (f .last .1 .1 .1 .1 .1 .1 .1 .1 .0) h)), omega (arith, f .ensures .room, p .1 .0 .1, p .1 .1))
-
-same-length : tie.Need-same-length
-same-length c = search needs
-
-same-length-2 : tie.Need-same-length-2
-same-length-2 c = search needs
-
-same-length-3 : tie.Need-same-length-3
-same-length-3 c = search needs
 
 returns : tie.Need-returns
 returns c = (c .before .before .before .before .before .before .before .before .before .feed .ensures, c .write-answers .ensures)
@@ -37,10 +22,5 @@ pub answer-chunk-spec : {M : Type 1} → statement M
 answer-chunk-spec =
     tie.close
     (tie.spec
-    slice-aggregate-feed
-    feed-requires
-    write-answers-requires
-    same-length
-    same-length-2
-    same-length-3
+    (λ c. search needs) (λ c κs. search needs) write-answers-requires (λ c. search needs) (λ c. search needs) (λ c. search needs)
     returns)

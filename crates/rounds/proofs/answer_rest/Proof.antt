@@ -8,24 +8,12 @@ use borrow.Author.Needs.{needs}
 use Rattle.rounds.proofs.answer_rest.Statement.{statement}
 use Rattle.rounds.proofs.answer_rest.Tie as tie
 
-finish-requires : tie.Need-finish-requires
-finish-requires c κs = search needs
-
 write-answers-requires : tie.Need-write-answers-requires
 write-answers-requires c κs =
     let f = c .before .before .before .before .before .before .before .before .finish in
     let p = c .before .before .before .before .before .before .before .before .before .before .before .before .before .before .before .before .before .before .pre in
     let h : f .result ≤ length (f .last .1 .1 .1 .1 .1 .1 .1 .0) = omega (arith, f .ensures .room, f .kept .1 .1 .1 .1 .1 .1 .1 .0, p .2) in
     ((h, sym (length-take-le (f .result) (f .last .1 .1 .1 .1 .1 .1 .1 .0) h)), omega (arith, f .ensures .room, p .3))
-
-same-length : tie.Need-same-length
-same-length c = search needs
-
-same-length-2 : tie.Need-same-length-2
-same-length-2 c = search needs
-
-same-length-3 : tie.Need-same-length-3
-same-length-3 c = search needs
 
 returns : tie.Need-returns
 returns c = (c .before .before .before .before .before .before .before .before .before .finish .ensures, c .write-answers .ensures)
@@ -34,9 +22,4 @@ pub answer-rest-spec : {M : Type 1} → statement M
 answer-rest-spec =
     tie.close
     (tie.spec
-    finish-requires
-    write-answers-requires
-    same-length
-    same-length-2
-    same-length-3
-    returns)
+    (λ c κs. search needs) write-answers-requires (λ c. search needs) (λ c. search needs) (λ c. search needs) returns)

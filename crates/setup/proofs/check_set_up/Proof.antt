@@ -19,12 +19,6 @@ returns-3 c = long-permanent _ _ _ (omega arith) (search needs)
 returns-4 : tie.Need-returns-4
 returns-4 c = long-scratch _ _ _ (omega arith) (search needs) (search needs)
 
-add-if5 : tie.Need-add-if5
-add-if5 c = search needs
-
-add-if5-2 : tie.Need-add-if5-2
-add-if5-2 c = search needs
-
 returns-5 : tie.Need-returns-5
 returns-5 c = other-map _ _ _ (omega arith) (search needs) (search needs) (search needs)
 
@@ -34,4 +28,10 @@ returns-6 c = prepared _ _ _ (omega arith) (search needs) (search needs) (search
 pub check-set-up-spec : {M : Type 1} → statement M
 check-set-up-spec =
     tie.close
-    (tie.spec returns returns-2 returns-3 returns-4 add-if5 add-if5-2 returns-5 returns-6)
+    (tie.spec
+    returns
+    returns-2
+    returns-3
+    returns-4
+    (λ c. search needs) (λ c. search needs) returns-5
+    returns-6)

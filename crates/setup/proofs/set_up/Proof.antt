@@ -6,12 +6,6 @@ use borrow.Author.Needs.{needs}
 use Rattle.setup.proofs.set_up.Statement.{statement}
 use Rattle.setup.proofs.set_up.Tie as tie
 
-check-set-up-requires : tie.Need-check-set-up-requires
-check-set-up-requires c κs = search needs
-
-set-up-words-requires : tie.Need-set-up-words-requires
-set-up-words-requires c κs = search needs
-
 returns : tie.Need-returns
 returns c =
     let h = c .set-up-words .ensures in
@@ -22,4 +16,4 @@ returns c =
     }
 
 pub set-up-spec : {M : Type 1} → statement M
-set-up-spec = tie.close (tie.spec check-set-up-requires set-up-words-requires returns)
+set-up-spec = tie.close (tie.spec (λ c κs. search needs) (λ c κs. search needs) returns)

@@ -5,15 +5,9 @@ use borrow.Author.Needs.{needs}
 use Rattle.setup.proofs.set_up_words.Statement.{statement}
 use Rattle.setup.proofs.set_up_words.Tie as tie
 
-first-words-requires : tie.Need-first-words-requires
-first-words-requires c κs = search needs
-
 returns : tie.Need-returns
 returns c =
     rw (c .first-words .ensures) (accepted-holds _ _ _ (sym (c .before .before .pre) ∙ c .before .if1 .taken))
-
-first-words-requires-2 : tie.Need-first-words-requires-2
-first-words-requires-2 c κs = search needs
 
 returns-2 : tie.Need-returns-2
 returns-2 c =
@@ -21,4 +15,4 @@ returns-2 c =
 
 pub set-up-words-spec : {M : Type 1} → statement M
 set-up-words-spec =
-    tie.close (tie.spec first-words-requires returns first-words-requires-2 returns-2)
+    tie.close (tie.spec (λ c κs. search needs) returns (λ c κs. search needs) returns-2)

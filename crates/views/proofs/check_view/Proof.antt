@@ -12,9 +12,6 @@ use Rattle.views.proofs.check_view.Tie as tie
 abbrev start : tie.Else1 → tie.Start
 start c = c .before .before .before .before .before
 
-check-caller-requires : tie.Need-check-caller-requires
-check-caller-requires c κs = search needs
-
 returns : tie.Need-returns
 returns c = refused-checked _ (c .if1 .taken) (caller-refused _ _ _ (c .before .check-caller .ensures) (c .if1 .taken) _)
 
@@ -28,4 +25,5 @@ returns-2 : tie.Need-returns-2
 returns-2 c = c .check-object .ensures ∙ ap (checkedOf _) (sym (admit-rest _ _ _ (called (c .before)) _))
 
 pub check-view-spec : {M : Type 1} → statement M
-check-view-spec = tie.close (tie.spec check-caller-requires returns check-object-requires returns-2)
+check-view-spec =
+    tie.close (tie.spec (λ c κs. search needs) returns check-object-requires returns-2)

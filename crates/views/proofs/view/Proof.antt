@@ -21,20 +21,11 @@ memory c = memoryIn (start c .args .permanent) (start c .args .scratch) (start c
 low : (c : tie.After-view-place) → c .view-place .result .from + c .view-place .result .len ≤ 16384
 low c = place-low (state c) (memory c) (start c .args .t) (start c .args .p) _ (c .view-place .ensures) (start c .pre .good)
 
-view-place-requires : tie.Need-view-place-requires
-view-place-requires c κs = search needs
-
 add-to : tie.Need-add-to
 add-to c = omega (arith, low c)
 
 mul-result : tie.Need-mul-result
 mul-result c = omega (arith, low (c .before .before))
-
-sub-result : tie.Need-sub-result
-sub-result c = search needs
-
-part-result-start : tie.Need-part-result-start
-part-result-start c = search needs
 
 part-result-end : tie.Need-part-result-end
 part-result-end c =
@@ -49,12 +40,6 @@ returns c =
 
 mul-result-2 : tie.Need-mul-result-2
 mul-result-2 c = omega (arith, low (c .before .before))
-
-sub-result-2 : tie.Need-sub-result-2
-sub-result-2 c = search needs
-
-part-result-start-2 : tie.Need-part-result-start-2
-part-result-start-2 c = search needs
 
 part-result-end-2 : tie.Need-part-result-end-2
 part-result-end-2 c =
@@ -71,15 +56,5 @@ pub view-spec : {M : Type 1} → statement M
 view-spec =
     tie.close
     (tie.spec
-    view-place-requires
-    add-to
-    mul-result
-    sub-result
-    part-result-start
-    part-result-end
-    returns
-    mul-result-2
-    sub-result-2
-    part-result-start-2
-    part-result-end-2
-    returns-2)
+    (λ c κs. search needs) add-to mul-result (λ c. search needs) (λ c. search needs) part-result-end returns
+    mul-result-2 (λ c. search needs) (λ c. search needs) part-result-end-2 returns-2)

@@ -31,18 +31,6 @@ used c = checked-passed _ (sym (c .o .given .1) ∙ past c .check-view .ensures)
 lies : (c : tie.After-o) → Lies (memory (past c)) (c .o .given .0 .0)
 lies c = object-in (state (past c)) (memory (past c)) (start (past c) .args .t) (start (past c) .args .p) (used c .0) _ (used c .1) (start (past c) .pre .good)
 
-check-view-requires : tie.Need-check-view-requires
-check-view-requires c κs = search needs
-
-enum-known-n : tie.Need-enum-known-n
-enum-known-n c = search needs
-
-enum-known-o : tie.Need-enum-known-o
-enum-known-o c = search needs
-
-store-of-requires : tie.Need-store-of-requires
-store-of-requires c κs = search needs
-
 add-t14 : tie.Need-add-t14
 add-t14 c = omega (arith, lies (c .before .before) .low)
 
@@ -65,11 +53,5 @@ pub view-place-spec : {M : Type 1} → statement M
 view-place-spec =
     tie.close
     (tie.spec
-    check-view-requires
-    enum-known-n
-    enum-known-o
-    store-of-requires
-    add-t14
-    add-t15
-    returns
+    (λ c κs. search needs) (λ c. search needs) (λ c. search needs) (λ c κs. search needs) add-t14 add-t15 returns
     returns-2)

@@ -21,15 +21,6 @@ memory c = memoryIn (start c .args .permanent) (start c .args .scratch) (start c
 abbrev call : tie.After-check-view → calls.Call
 call c = calls.viewStatus (start c .args .t) (start c .args .p)
 
-check-view-requires : tie.Need-check-view-requires
-check-view-requires c κs = search needs
-
-enum-known-status : tie.Need-enum-known-status
-enum-known-status c = search needs
-
-enum-told : tie.Need-enum-told
-enum-told c = search needs
-
 returns : tie.Need-returns
 returns c =
     let d = c .before .before .before in
@@ -44,4 +35,5 @@ returns-2 c =
     answered-accepted _ _ (memory d) (call d) y (sym (e .0)) refl refl refl (record { sized = y .sized; state = refl }) refl
 
 pub view-status-spec : {M : Type 1} → statement M
-view-status-spec = tie.close (tie.spec check-view-requires enum-known-status enum-told returns returns-2)
+view-status-spec =
+    tie.close (tie.spec (λ c κs. search needs) (λ c. search needs) (λ c. search needs) returns returns-2)

@@ -65,16 +65,10 @@ pub check-make-spec : {M : Type 1} → statement M
 check-make-spec =
     tie.close
     (tie.spec
-    (search needs)
-    returns
+    (λ c κs. search needs) returns
     returns-2
     returns-3
-    (λ c κs. search needs)
-    (λ c κs. search needs)
-    (λ c κs. search needs)
-    (λ c κs. search needs)
-    sub-left
-    (λ c κs. search needs)
+    (λ c κs. search needs) (λ c κs. search needs) (λ c κs. search needs) (λ c κs. search needs) sub-left (λ c κs. search needs)
     returns-4
     returns-5
     returns-6)

@@ -15,4 +15,4 @@ returns-2 c =
     fit-answered _ _ _ _ _ refl (fit _ _ (c .before .before .before .lengths-fit .ensures) (c .before .before .if1 .left)) (c .make-on .ensures)
 
 pub make-spec : {M : Type 1} → statement M
-make-spec = tie.close (tie.spec (search needs) returns (λ c κs. search needs) returns-2)
+make-spec = tie.close (tie.spec (λ c κs. search needs) returns (λ c κs. search needs) returns-2)

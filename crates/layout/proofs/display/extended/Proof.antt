@@ -29,24 +29,6 @@ loop-holds c =
     let a = c .before .args in
     (omega arith, refl, so-far-none (a .row) (bitAnd (a .depth .0) 255) (a .area), search needs)
 
-array-read-kept : tie.Need-array-read-kept Inv-loop μ-loop
-array-read-kept c = search needs
-
-entry-requires : tie.Need-entry-requires Inv-loop μ-loop
-entry-requires c κs = search needs
-
-array-write-next : tie.Need-array-write-next Inv-loop μ-loop
-array-write-next c = search needs
-
-add-at : tie.Need-add-at Inv-loop μ-loop
-add-at c = search needs
-
-add-place : tie.Need-add-place Inv-loop μ-loop
-add-place c = search needs
-
-loop-less : tie.Need-loop-less Inv-loop μ-loop
-loop-less c = search needs
-
 loop-again : tie.Need-loop-again Inv-loop μ-loop
 loop-again c =
     let l = c .before .before .loop in
@@ -68,4 +50,6 @@ returns c =
 pub extended-spec : {M : Type 1} → statement M
 extended-spec =
     tie.close
-    (tie.spec Inv-loop μ-loop cast-last loop-holds array-read-kept entry-requires array-write-next add-at add-place loop-less loop-again returns)
+    (tie.spec
+    Inv-loop μ-loop cast-last loop-holds (λ c. search needs) (λ c κs. search needs) (λ c. search needs) (λ c. search needs)
+    (λ c. search needs) (λ c. search needs) loop-again returns)

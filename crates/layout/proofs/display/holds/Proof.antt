@@ -10,15 +10,9 @@ returns : tie.Need-returns
 unfolding rowHolds
 returns c = rw (le-ltb 0 (c .before .args .depth .0) (omega arith))
 
-sub-result : tie.Need-sub-result
-sub-result c = search needs
-
-shared-slice-read-result : tie.Need-shared-slice-read-result
-shared-slice-read-result c = search needs
-
 returns-2 : tie.Need-returns-2
 unfolding rowHolds
 returns-2 c = rw (lt-ltb 0 (c .before .before .args .depth .0) (omega arith))
 
 pub holds-spec : {M : Type 1} → statement M
-holds-spec = tie.close (tie.spec returns sub-result shared-slice-read-result returns-2)
+holds-spec = tie.close (tie.spec returns (λ c. search needs) (λ c. search needs) returns-2)

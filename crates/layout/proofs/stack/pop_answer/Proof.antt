@@ -5,21 +5,9 @@ use Rattle.layout.specs.Stack.{popAnswer}
 use Rattle.layout.proofs.stack.pop_answer.Statement.{statement}
 use Rattle.layout.proofs.stack.pop_answer.Tie as tie
 
-height-requires : tie.Need-height-requires
-height-requires c κs = search needs
-
 returns : tie.Need-returns
 unfolding popAnswer
 returns c = simp (← c .before .height .ensures, eq-eqb _ 0 (c .if1 .taken))
-
-sub-at : tie.Need-sub-at
-sub-at c = search needs
-
-element-copy-out-t10 : tie.Need-element-copy-out-t10
-element-copy-out-t10 c = search needs
-
-cast-t11 : tie.Need-cast-t11
-cast-t11 c = search needs
 
 returns-2 : tie.Need-returns-2
 unfolding popAnswer
@@ -28,4 +16,6 @@ returns-2 c = simp (← c .before .before .height .ensures, ne-eqb _ 0 (c .befor
 pub pop-answer-spec : {M : Type 1} → statement M
 pop-answer-spec =
     tie.close
-    (tie.spec height-requires returns sub-at element-copy-out-t10 cast-t11 returns-2)
+    (tie.spec
+    (λ c κs. search needs) returns
+    (λ c. search needs) (λ c. search needs) (λ c. search needs) returns-2)

@@ -5,19 +5,13 @@ use Rattle.layout.specs.Stack.{poppedStack}
 use Rattle.layout.proofs.stack.popped.Statement.{statement}
 use Rattle.layout.proofs.stack.popped.Tie as tie
 
-height-requires : tie.Need-height-requires
-height-requires c κs = search needs
-
 returns : tie.Need-returns
 unfolding poppedStack
 returns c = simp (← c .before .height .ensures, eq-eqb _ 0 (c .if1 .taken))
-
-sub-next : tie.Need-sub-next
-sub-next c = search needs
 
 returns-2 : tie.Need-returns-2
 unfolding poppedStack
 returns-2 c = simp (← c .before .height .ensures, ne-eqb _ 0 (c .if1 .left))
 
 pub popped-spec : {M : Type 1} → statement M
-popped-spec = tie.close (tie.spec height-requires returns sub-next returns-2)
+popped-spec = tie.close (tie.spec (λ c κs. search needs) returns (λ c. search needs) returns-2)

@@ -13,19 +13,14 @@ returns-2 : tie.Need-returns-2
 unfolding pushedStack
 returns-2 c = simp (le-ltb 63 _ (c .before .before .if1 .left), le-leb 32 _ (c .if2 .taken))
 
-cast-next : tie.Need-cast-next
-cast-next c = search needs
-
-element-write-next : tie.Need-element-write-next
-element-write-next c = search needs
-
-add-next : tie.Need-add-next
-add-next c = search needs
-
 returns-3 : tie.Need-returns-3
 unfolding pushedStack
 returns-3 c = simp (le-ltb 63 _ (c .before .before .before .if1 .left), lt-leb 32 _ (c .before .if2 .left))
 
 pub pushed-spec : {M : Type 1} → statement M
 pushed-spec =
-    tie.close (tie.spec returns returns-2 cast-next element-write-next add-next returns-3)
+    tie.close
+    (tie.spec
+    returns
+    returns-2
+    (λ c. search needs) (λ c. search needs) (λ c. search needs) returns-3)
