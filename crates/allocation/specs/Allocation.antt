@@ -22,7 +22,7 @@ use Rattle.model.proofs.Accepted.{Called, AllocateOk}
 use Rattle.tables.specs.Decode.{stateOf, putArea, Holds}
 use Rattle.tables.specs.Laws.{state-area}
 use Rattle.tables.specs.Contract.{Borrowed, before, supplied, returned, Ready, memoryOf}
-use Rattle.threads.specs.Caller.{thread-refused, called-rest}
+use Rattle.callers.specs.Caller.{thread-refused, called-rest}
 use Rattle.model.proofs.PlacedWords.{supplied-lengths}
 use Rattle.objects.specs.Places.{AreaWords, area-words}
 use Rattle.objects.specs.Stores.{StoreWritten, stored-memory}

@@ -62,12 +62,12 @@ fn check_allocate(words: &Words, bytes: &Bytes, t: u64, slots: u64, data_words: 
     requires { ⌜ Usable words bytes ⌝ }
     ensures { λ r. ⌜ r ≡ allocateRest (before words bytes) t slots data_words ⌝ }
 {
-    let refusal = threads::check_thread(words, bytes, t);
+    let refusal = callers::check_thread(words, bytes, t);
     if refusal != 0 {
         return refusal;
     }
-    let area = threads::top_entry(words, bytes, t as usize).area;
-    let may = threads::has_right(words, bytes, t as usize, Right::Allocate, area as u64);
+    let area = callers::top_entry(words, bytes, t as usize).area;
+    let may = callers::has_right(words, bytes, t as usize, Right::Allocate, area as u64);
     let x = tables::area_at(words, area as usize);
     let room = x.size - x.used;
     if !may {
@@ -98,7 +98,7 @@ fn apply_allocate(
     requires { ⌜ Fitting words bytes permanent scratch map × (allocateRest (stateIn words bytes) t slots data_words ≡ 0) ⌝ }
     ensures { λ r. ⌜ MakesObject r words bytes permanent scratch map t slots data_words ⌝ }
 {
-    let area = threads::top_entry(words, bytes, t).area as u64;
+    let area = callers::top_entry(words, bytes, t).area as u64;
     let x = tables::area_at(words, area as usize);
     let used = x.used + 1 + slots + data_words;
     let next = Area {
@@ -132,7 +132,7 @@ pub fn allocate(
     requires { ⌜ Usable words bytes ⌝ }
     ensures { λ r. ⌜ Answers r words bytes permanent scratch map (calls.allocate t slots data_words) ⌝ }
 {
-    let fit = threads::lengths_fit(words, bytes, permanent, scratch, map);
+    let fit = callers::lengths_fit(words, bytes, permanent, scratch, map);
     if !fit {
         return Answer {
             status: 1,

@@ -18,7 +18,7 @@ use Rattle.model.proofs.Accepted.{Called, MakeOk, make-ok}
 use Rattle.tables.specs.Decode.{stateOf, areaRecord, putArea, lengthsRecord, takenOf, putTaken, Shaped, Holds}
 use Rattle.tables.specs.Contract.{Ready}
 use Rattle.tables.specs.Laws.{area-read, lengths-read, taken-read, state-area, state-taken}
-use Rattle.threads.specs.Caller.{thread-refused, called-rest}
+use Rattle.callers.specs.Caller.{thread-refused, called-rest}
 
 -- the words tell whether an area is made
 made-read : (w b : List ℕ) (q : ℕ) → q < 64 → isMade (stateOf w b) q ≡ madeAs (areaRecord w q) q

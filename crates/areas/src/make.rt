@@ -25,7 +25,7 @@ fn check_make(words: &Words, bytes: &Bytes, t: u64, q: u64, r: u64) -> u64
     requires { ⌜ Usable words bytes ⌝ }
     ensures { λ n. ⌜ n ≡ makeRest (before words bytes) t q r ⌝ }
 {
-    let refusal = threads::check_thread(words, bytes, t);
+    let refusal = callers::check_thread(words, bytes, t);
     if refusal != 0 {
         return refusal;
     }
@@ -93,7 +93,7 @@ pub fn make(
     requires { ⌜ Usable words bytes ⌝ }
     ensures { λ a. ⌜ Answers a words bytes permanent scratch map (calls.make t q r) ⌝ }
 {
-    let fit = threads::lengths_fit(words, bytes, permanent, scratch, map);
+    let fit = callers::lengths_fit(words, bytes, permanent, scratch, map);
     if !fit {
         return Answer {
             status: 1,

@@ -22,7 +22,7 @@ pub fn write(
     requires { ⌜ Usable words bytes ⌝ }
     ensures { λ r. ⌜ Answers r words bytes permanent scratch map (calls.write t p q word) ⌝ }
 {
-    let refusal = threads::check_caller(words, bytes, permanent, scratch, map, t);
+    let refusal = callers::check_caller(words, bytes, permanent, scratch, map, t);
     if refusal != 0 {
         return Answer {
             status: refusal,
@@ -53,7 +53,7 @@ pub fn read(
     requires { ⌜ Usable words bytes ⌝ }
     ensures { λ r. ⌜ Answers r words bytes permanent scratch map (calls.read t p q) ⌝ }
 {
-    let refusal = threads::check_caller(words, bytes, permanent, scratch, map, t);
+    let refusal = callers::check_caller(words, bytes, permanent, scratch, map, t);
     if refusal != 0 {
         return Answer {
             status: refusal,

@@ -20,7 +20,7 @@ use Rattle.model.proofs.Accepted.{Called, EnterOk, enter-ok}
 use Rattle.tables.specs.declared.thread.ThreadWords.{ThreadWords}
 use Rattle.tables.specs.Decode.{stateOf, areaRecord, threadRecord}
 use Rattle.tables.specs.Laws.{area-read, len-read}
-use Rattle.threads.specs.Caller.{thread-refused, called-rest}
+use Rattle.callers.specs.Caller.{thread-refused, called-rest}
 use Rattle.model.proofs.Bounds.{inner-area, count-bound}
 use Rattle.model.proofs.KeepsEnter.{inner-depth}
 

@@ -12,7 +12,7 @@ ghost use mathlib.Core.Path.{_≡_};
 ghost use Prim.Native.Nat.{_<_, _≤_};
 ghost use Rattle.layout.specs.Choice.{pick};
 ghost use Rattle.layout.specs.Display.{extendedRow};
-ghost use Rattle.model.specs.State.{isScope, threadAt, areaAt, stackAt, innermost};
+ghost use Rattle.model.specs.State.{isScope, threadAt, stackAt, innermost};
 ghost use Rattle.model.specs.Scopes.{lastGeneration, reentered, opened, enteredArea, enterState, enterValue, enterChange};
 ghost use Rattle.model.specs.Calls as calls;
 ghost use Rattle.tables.specs.Decode.{displayRow, putRow, Shaped};
@@ -58,7 +58,7 @@ fn check_there(words: &Words, bytes: &Bytes, t: usize, q: u64, inner: u8) -> u64
     requires { ⌜ (t < 16) × (q < 64) ⌝ }
     ensures { λ n. ⌜ n ≡ thereRest (before words bytes) t q inner ⌝ }
 {
-    let allowed = threads::has_right(words, bytes, t, Right::Enter, q);
+    let allowed = callers::has_right(words, bytes, t, Right::Enter, q);
     let len = tables::thread_at(words, t).len;
     let x = tables::area_at(words, q as usize);
     check_entry(allowed, len, inner as u64, x, q)
@@ -167,7 +167,7 @@ pub fn enter_on(words: &mut Words, bytes: &mut Bytes, t: u64, q: u64) -> Answer
     requires { ⌜ Usable words bytes ⌝ }
     ensures { λ r. ⌜ Changes r words bytes (enterChange (before words bytes) t q) ⌝ }
 {
-    let refusal = threads::check_thread(words, bytes, t);
+    let refusal = callers::check_thread(words, bytes, t);
     if refusal != 0 {
         return Answer {
             status: refusal,
@@ -180,7 +180,7 @@ pub fn enter_on(words: &mut Words, bytes: &mut Bytes, t: u64, q: u64) -> Answer
             value: 0,
         };
     }
-    let inner = threads::top_entry(words, bytes, t as usize).inner;
+    let inner = callers::top_entry(words, bytes, t as usize).inner;
     let status = check_there(words, bytes, t as usize, q, inner);
     if status != 0 {
         return Answer { status, value: 0 };
@@ -204,7 +204,7 @@ pub fn enter(
     requires { ⌜ Usable words bytes ⌝ }
     ensures { λ r. ⌜ Answers r words bytes permanent scratch map (calls.enter t q) ⌝ }
 {
-    let fit = threads::lengths_fit(words, bytes, permanent, scratch, map);
+    let fit = callers::lengths_fit(words, bytes, permanent, scratch, map);
     if !fit {
         return Answer {
             status: 1,

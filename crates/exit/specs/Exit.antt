@@ -17,7 +17,7 @@ use Rattle.model.proofs.Accepted.{Called, ExitOk, exit-ok}
 use Rattle.tables.specs.declared.thread.ThreadWords.{ThreadWords}
 use Rattle.tables.specs.Decode.{stateOf, areaRecord, putArea, threadRecord, putThread, Shaped, Holds}
 use Rattle.tables.specs.Laws.{area-read, kind-read, len-read, state-area, state-thread}
-use Rattle.threads.specs.Caller.{thread-refused, called-rest}
+use Rattle.callers.specs.Caller.{thread-refused, called-rest}
 
 module _ (s : State) (t : ℕ) where
   pub exit-not-called : {n : ℕ} → n ≡ called s t 0 → n ≢ 0 → n ≡ exitRest s t

@@ -16,7 +16,7 @@ ghost use Rattle.tables.specs.Contract.{stateIn, before, Leaves, Usable, Change
 fn check_exit(words: &Words, bytes: &Bytes, t: u64) -> u64
     ensures { λ n. ⌜ n ≡ exitRest (before words bytes) t ⌝ }
 {
-    let refusal = threads::check_thread(words, bytes, t);
+    let refusal = callers::check_thread(words, bytes, t);
     if refusal != 0 {
         return refusal;
     }
@@ -76,7 +76,7 @@ fn apply_exit(words: &mut Words, bytes: &Bytes, t: usize) -> u64
     ensures value { λ r. ⌜ r ≡ exitValue (before words bytes) t ⌝ }
     ensures state { λ r. ⌜ Leaves words bytes (exitState (before words bytes) t) ⌝ }
 {
-    let top = threads::top_entry(words, bytes, t).area;
+    let top = callers::top_entry(words, bytes, t).area;
     let count = leave_area(words, bytes, top as usize);
     pop(words, bytes, t);
     count
@@ -108,7 +108,7 @@ pub fn exit(
     requires { ⌜ Usable words bytes ⌝ }
     ensures { λ r. ⌜ Answers r words bytes permanent scratch map (calls.exit t) ⌝ }
 {
-    let fit = threads::lengths_fit(words, bytes, permanent, scratch, map);
+    let fit = callers::lengths_fit(words, bytes, permanent, scratch, map);
     if !fit {
         return Answer {
             status: 1,

@@ -15,7 +15,6 @@ use Rattle.model.specs.declared.Op.{Op}
 use Rattle.model.specs.Ops.{opOf}
 use Rattle.lines.specs.Hexadecimal.{allDigits}
 use Rattle.lines.specs.declared.frame.Fields.{Fields}
-use Rattle.lines.specs.declared.frame.Parsed.{Parsed}
 use Rattle.lines.specs.declared.frame.Parsed.the-variants.{Frame, Bad}
 use Rattle.lines.specs.Frames.{opcodeOf, fieldsOf, unusedZero, framed, parsedOf}
 use Rattle.lines.specs.Lines.{Buffered}

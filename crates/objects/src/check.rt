@@ -31,7 +31,7 @@ pub fn check_object(
     let Found::At(o) = find::lookup(words, bytes, permanent, scratch, map, p) else {
         return Checked::Refused(13);
     };
-    if !threads::has_right(words, bytes, t as usize, Right::Use, o.area) {
+    if !callers::has_right(words, bytes, t as usize, Right::Use, o.area) {
         return Checked::Refused(5);
     }
     Checked::Passed(o)

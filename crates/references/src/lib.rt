@@ -52,7 +52,7 @@ fn check_reference(
     let Found::At(o) = objects::lookup(words, bytes, permanent, scratch, map, x) else {
         return 15;
     };
-    if !threads::has_right(words, bytes, t as usize, Right::Refer, o.area) {
+    if !callers::has_right(words, bytes, t as usize, Right::Refer, o.area) {
         return 5;
     }
     0
@@ -106,7 +106,7 @@ pub fn store(
     requires { ⌜ Usable words bytes ⌝ }
     ensures { λ r. ⌜ Answers r words bytes permanent scratch map (calls.store t p q target) ⌝ }
 {
-    let refusal = threads::check_caller(words, bytes, permanent, scratch, map, t);
+    let refusal = callers::check_caller(words, bytes, permanent, scratch, map, t);
     if refusal != 0 {
         return Answer {
             status: refusal,
@@ -141,7 +141,7 @@ pub fn load(
     requires { ⌜ Usable words bytes ⌝ }
     ensures { λ r. ⌜ Answers r words bytes permanent scratch map (calls.load t p q) ⌝ }
 {
-    let refusal = threads::check_caller(words, bytes, permanent, scratch, map, t);
+    let refusal = callers::check_caller(words, bytes, permanent, scratch, map, t);
     if refusal != 0 {
         return Answer {
             status: refusal,

@@ -1,7 +1,7 @@
 -- The reader of frames: its world is that of a list of calls, one for each line that is a frame, in the order of the lines. So every claim
 -- holds of the tables and buffers of a program that feeds it, and what such a program writes tells the answers of those calls.
 -- Assumes nothing.
-use Prim.Native.Nat.{ℕ, _≤_}
+use Prim.Native.Nat.{ℕ}
 use mathlib.Core.List.{List, [], _∷_, _++_}
 use mathlib.Core.Path.{_≡_, refl, sym, ap, _∙_, subst}
 use native.Mathlib.Omega.{arith}

@@ -1,5 +1,2 @@
--- The laws that the calls share, and those of the calls of threads.
-pub mod Caller
-pub mod Stack
+-- The laws of ops 01 and 02.
 pub mod Thread
-pub mod Rights

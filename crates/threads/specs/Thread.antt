@@ -17,7 +17,7 @@ use Rattle.tables.specs.Decode.{stateOf, threadRecord, putThread, Shaped, Holds
 use Rattle.tables.specs.Laws.{len-read, state-thread}
 use Rattle.tables.specs.Contract.{Ready, Changed}
 use Rattle.tables.specs.AnsweredLaws.{changed-accepted}
-use Rattle.threads.specs.Caller.{thread-refused, called-rest}
+use Rattle.callers.specs.Caller.{thread-refused, called-rest}
 
 -- ---- op 01
 

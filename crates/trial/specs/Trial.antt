@@ -4,7 +4,7 @@ use Prim.Native.Nat.{ℕ}
 use mathlib.Core.List.{List, [], _∷_, map}
 use mathlib.Core.Path.{_≡_}
 use Rattle.model.specs.State.{Memory}
-use Rattle.model.specs.Calls.{Call, start, allocate, viewStatus}
+use Rattle.model.specs.Calls.{start, allocate, viewStatus}
 use Rattle.model.specs.Run.{Line}
 use Rattle.served.specs.Served.{Served}
 

@@ -12,9 +12,7 @@ use lib.ListN.{length, take, drop}
 use borrow.Author.Tests.{ne-eqb, eqb-true, eqb-false}
 use Rattle.layout.specs.Choice.{pick, cases}
 use Rattle.layout.specs.Handle.{areaOf}
-use Rattle.layout.specs.Header.{dataOf}
 use Rattle.model.specs.State.{State, Memory, isScope}
-use Rattle.model.specs.Checks.{headerAt}
 use Rattle.model.specs.References.{placeAfter}
 use Rattle.model.specs.Data.{dataIndex, viewRefusal, viewWords}
 use Rattle.model.specs.Invariant.{Good}

@@ -36,7 +36,7 @@ fn check_view(
     requires { ⌜ Usable words bytes ⌝ }
     ensures { λ r. ⌜ Checks r words bytes permanent scratch map p (λ s m. viewRefusal s m t p) ⌝ }
 {
-    let refusal = threads::check_caller(words, bytes, permanent, scratch, map, t);
+    let refusal = callers::check_caller(words, bytes, permanent, scratch, map, t);
     if refusal != 0 {
         return Checked::Refused(refusal);
     }

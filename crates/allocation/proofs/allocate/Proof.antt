@@ -6,7 +6,7 @@ use Rattle.model.specs.Calls as calls
 use Rattle.model.proofs.Outcomes.{unfit-fitted, fit-fitted}
 use Rattle.tables.specs.Contract.{stateIn, memoryIn}
 use Rattle.tables.specs.AnsweredLaws.{answered-refused, answered-accepted}
-use Rattle.threads.specs.Caller.{unfit, fit}
+use Rattle.callers.specs.Caller.{unfit, fit}
 use native.Mathlib.Omega.{arith}
 use Rattle.allocation.proofs.allocate.Statement.{statement}
 use Rattle.allocation.proofs.allocate.Tie as tie

@@ -14,7 +14,7 @@ use Rattle.model.proofs.Accepted.{Called}
 use Rattle.tables.specs.declared.thread.Entry.{Entry}
 use Rattle.tables.specs.Laws.{area-read}
 use Rattle.tables.specs.Contract.{stateIn}
-use Rattle.threads.specs.Caller.{thread-called}
+use Rattle.callers.specs.Caller.{thread-called}
 use Rattle.model.proofs.Bounds.{current-area}
 use Rattle.allocation.specs.Allocation.{allocate-not-called, allocate-no-right, allocate-no-room, allocate-room}
 use Rattle.allocation.proofs.check_allocate.Statement.{statement}
@@ -91,7 +91,7 @@ pub check-allocate-spec : {M : Type 1} → statement M
 check-allocate-spec =
     tie.close
     (tie.spec
-    (search needs)
+    (λ c κs. search needs)
     returns
     top-entry-requires
     (λ c. search needs)

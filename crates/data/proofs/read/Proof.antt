@@ -7,7 +7,7 @@ use Rattle.model.specs.Calls as calls
 use Rattle.model.proofs.Accepted.{Admitted}
 use Rattle.tables.specs.Contract.{stateIn, memoryIn}
 use Rattle.tables.specs.AnsweredLaws.{answered-refused, answered-accepted}
-use Rattle.threads.specs.Caller.{caller-refused, caller-admitted, admit-rest}
+use Rattle.callers.specs.Caller.{caller-refused, caller-admitted, admit-rest}
 use Rattle.objects.specs.declared.index.Part.the-variants.{Data}
 use Rattle.objects.specs.Verdict.{verdict-passed, verdict-stopped}
 use Rattle.objects.specs.Indexed.{wordOf, indexed-cases}

@@ -43,7 +43,7 @@ pub check-entry-spec : {M : Type 1} → statement M
 check-entry-spec =
     tie.close
     (tie.spec
-    (search needs)
+    (λ c κs. search needs)
     returns
     returns-2
     returns-3

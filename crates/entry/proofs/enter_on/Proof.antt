@@ -10,7 +10,7 @@ use Rattle.model.proofs.KeepsEnter.{good-enter}
 use Rattle.tables.specs.declared.thread.Entry.{Entry}
 use Rattle.tables.specs.Contract.{stateIn}
 use Rattle.tables.specs.AnsweredLaws.{changed-refused, changed-accepted}
-use Rattle.threads.specs.Caller.{thread-called}
+use Rattle.callers.specs.Caller.{thread-called}
 use Rattle.entry.specs.Enter.{thereRest, enter-not-called, enter-no-area, enter-entry, enterable}
 use Rattle.entry.proofs.enter_on.Statement.{statement}
 use Rattle.entry.proofs.enter_on.Tie as tie

@@ -5,7 +5,7 @@ use borrow.Author.Needs.{needs}
 use Rattle.model.proofs.Accepted.{Called}
 use Rattle.tables.specs.Contract.{stateIn}
 use Rattle.tables.specs.Laws.{len-read}
-use Rattle.threads.specs.Caller.{thread-called}
+use Rattle.callers.specs.Caller.{thread-called}
 use Rattle.exit.specs.Exit.{exit-not-called, exit-empty, exit-accepted}
 use Rattle.exit.proofs.check_exit.Statement.{statement}
 use Rattle.exit.proofs.check_exit.Tie as tie
@@ -29,4 +29,4 @@ returns-3 c =
     exit-accepted _ _ k (λ z. c .if2 .left (sym (len-read (now (a .words)) (now (a .bytes)) (a .t) (k .thread) (c .before .before .thread-at .ensures)) ∙ z))
 
 pub check-exit-spec : {M : Type 1} → statement M
-check-exit-spec = tie.close (tie.spec (search needs) returns thread-at-requires returns-2 returns-3)
+check-exit-spec = tie.close (tie.spec (λ c κs. search needs) returns thread-at-requires returns-2 returns-3)

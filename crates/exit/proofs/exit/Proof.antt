@@ -2,7 +2,7 @@
 use mathlib.Core.Path.{refl}
 use borrow.Author.Needs.{needs}
 use Rattle.tables.specs.AnsweredLaws.{unfit-answered, fit-answered}
-use Rattle.threads.specs.Caller.{unfit, fit}
+use Rattle.callers.specs.Caller.{unfit, fit}
 use Rattle.exit.proofs.exit.Statement.{statement}
 use Rattle.exit.proofs.exit.Tie as tie
 
@@ -15,4 +15,4 @@ returns-2 c =
     fit-answered _ _ _ _ _ refl (fit _ _ (c .before .before .before .lengths-fit .ensures) (c .before .before .if1 .left)) (c .exit-on .ensures)
 
 pub exit-spec : {M : Type 1} → statement M
-exit-spec = tie.close (tie.spec (search needs) returns (λ c κs. search needs) returns-2)
+exit-spec = tie.close (tie.spec (λ c κs. search needs) returns (λ c κs. search needs) returns-2)

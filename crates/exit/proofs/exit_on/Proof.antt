@@ -1,7 +1,5 @@
 -- `exit::exit_on` meets its contract. Assumes nothing.
-use denote.Ref.{now}
 use borrow.Author.Needs.{needs}
-use Rattle.model.proofs.Accepted.{ExitOk}
 use Rattle.model.proofs.KeepsExit.{good-exit}
 use Rattle.tables.specs.Contract.{stateIn}
 use Rattle.tables.specs.AnsweredLaws.{changed-refused, changed-accepted}
@@ -28,4 +26,4 @@ returns-2 c =
     (good-exit (stateIn (a .words) (a .bytes)) (a .t) (o .pre .good) (exit-passed _ _ e z))
 
 pub exit-on-spec : {M : Type 1} → statement M
-exit-on-spec = tie.close (tie.spec (search needs) returns apply-exit-requires returns-2)
+exit-on-spec = tie.close (tie.spec (λ c κs. search needs) returns apply-exit-requires returns-2)

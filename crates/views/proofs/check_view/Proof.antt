@@ -4,7 +4,7 @@ use borrow.Author.Needs.{needs}
 use Rattle.model.proofs.Accepted.{Admitted}
 use Rattle.tables.specs.Contract.{stateIn, memoryIn}
 use Rattle.objects.specs.Checked.{checkedOf, refused-checked}
-use Rattle.threads.specs.Caller.{caller-refused, caller-admitted, admit-rest}
+use Rattle.callers.specs.Caller.{caller-refused, caller-admitted, admit-rest}
 use Rattle.views.proofs.check_view.Statement.{statement}
 use Rattle.views.proofs.check_view.Tie as tie
 

@@ -5,7 +5,7 @@ use borrow.Author.Needs.{needs}
 use Rattle.model.specs.State.{State, isMade}
 use Rattle.model.proofs.Accepted.{Called}
 use Rattle.tables.specs.Contract.{stateIn}
-use Rattle.threads.specs.Caller.{thread-called}
+use Rattle.callers.specs.Caller.{thread-called}
 use Rattle.areas.specs.Make.{made-is, taken-bound, room-is, make-not-called, make-low, make-high, make-made, make-lacking, make-accepted}
 use Rattle.areas.proofs.make.check_make.Statement.{statement}
 use Rattle.areas.proofs.make.check_make.Tie as tie

@@ -2,7 +2,7 @@
 use mathlib.Core.Path.{refl}
 use borrow.Author.Needs.{needs}
 use Rattle.tables.specs.AnsweredLaws.{unfit-answered, fit-answered}
-use Rattle.threads.specs.Caller.{unfit, fit}
+use Rattle.callers.specs.Caller.{unfit, fit}
 use Rattle.areas.proofs.make.make.Statement.{statement}
 use Rattle.areas.proofs.make.make.Tie as tie
 

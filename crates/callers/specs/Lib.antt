@@ -1,0 +1,4 @@
+-- The laws of what every call asks of its caller.
+pub mod Caller
+pub mod Stack
+pub mod Rights
