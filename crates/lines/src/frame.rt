@@ -73,7 +73,7 @@ pub fn parse_line(line: &Text, len: usize) -> Parsed
     if !crate::digit::all_digits(line) {
         return Parsed::Bad;
     }
-    let Opcode::Known(op, p, q, r) = crate::op::op_of(crate::digit::field(line, 0, 2)) else {
+    let Opcode::Known(op, p, q, r) = opcodes::op_of(crate::digit::field(line, 0, 2)) else {
         return Parsed::Bad;
     };
     let f = read_fields(line, op);

@@ -1,4 +1,4 @@
-// The table of ops, as a line has it.
+// The table of ops in code: an op by its number, and the fields that it uses.
 use model::MemoryOp;
 use model::Op;
 use model::Opcode;

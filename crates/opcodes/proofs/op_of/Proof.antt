@@ -2,8 +2,8 @@
 use mathlib.Core.Path.{sym, ap}
 use borrow.Author.Tests.{ne-eqb}
 use Rattle.model.specs.Ops.{opOf}
-use Rattle.lines.proofs.op.op_of.Statement.{statement}
-use Rattle.lines.proofs.op.op_of.Tie as tie
+use Rattle.opcodes.proofs.op_of.Statement.{statement}
+use Rattle.opcodes.proofs.op_of.Tie as tie
 
 unknown : tie.Need-returns-11
 unfolding opOf
