@@ -1,7 +1,7 @@
 -- Laws of digits, and of the number of a field.
 -- Assumes nothing.
 use mathlib.Core.Path.{_≡_, refl, sym, ap, _∙_}
-use mathlib.Core.Bool.{true, false, _&&_}
+use mathlib.Core.Bool.{Bool, true, false, _&&_}
 use mathlib.Core.List.{List, [], _∷_, _++_}
 use mathlib.Core.Logic.{_⊎_, inl, inr, ⊎-elim}
 use Prim.Native.Nat.{ℕ, zero, suc, _+_, _-_, _*_, _^_, _≤_, _<_}
@@ -16,26 +16,6 @@ use Rattle.layout.specs.Choice.{and-true, or-true}
 use Rattle.lines.specs.Hexadecimal.{isDigit, digitValue, allDigits, numberFrom, fieldOf, Digits}
 
 -- ---- digits
-
-pub digit : (b : ℕ) → 48 ≤ b → b ≤ 57 → true ≡ isDigit b
-unfolding isDigit
-digit b h k = simp (le-leb 48 b h, le-leb b 57 k)
-
-pub letter : (b : ℕ) → 97 ≤ b → b ≤ 102 → true ≡ isDigit b
-unfolding isDigit
-letter b h k = simp (le-leb 48 b (omega arith), lt-leb b 57 (omega arith), le-leb 97 b h, le-leb b 102 k)
-
-pub below : (b : ℕ) → b < 48 → false ≡ isDigit b
-unfolding isDigit
-below b h = simp (lt-leb 48 b h, lt-leb 97 b (omega arith))
-
-pub between : (b : ℕ) → 57 < b → b < 97 → false ≡ isDigit b
-unfolding isDigit
-between b h k = simp (le-leb 48 b (omega arith), lt-leb b 57 h, lt-leb 97 b k)
-
-pub above : (b : ℕ) → 102 < b → false ≡ isDigit b
-unfolding isDigit
-above b h = simp (le-leb 48 b (omega arith), lt-leb b 57 (omega arith), le-leb 97 b (omega arith), lt-leb b 102 h)
 
 both : (x y a b : ℕ) → leb x y && leb a b ≡ true → (x ≤ y) × (a ≤ b)
 both x y a b e = let s = and-true (leb x y) (leb a b) e in (leb-true x y (s .0), leb-true a b (s .1))
@@ -61,7 +41,7 @@ value-small b e =
 
 -- ---- all digits
 
-pub none-left : (l : List ℕ) (n : ℕ) → length l ≤ n → true ≡ allDigits (drop n l)
+none-left : (l : List ℕ) (n : ℕ) → length l ≤ n → true ≡ allDigits (drop n l)
 unfolding allDigits
 none-left [] zero h = refl
 none-left [] (suc n) h = refl
@@ -72,13 +52,18 @@ one-more : (l : List ℕ) (i : ℕ) → i < length l → allDigits (drop i l) �
 unfolding allDigits
 one-more l i h = rw (drop-cons l i 0 h) refl
 
--- a byte that is no digit
-pub spoilt : (l : List ℕ) (i : ℕ) → i < length l → allDigits (drop i l) ≡ allDigits l → isDigit (getD l i 0) ≡ false → false ≡ allDigits l
-spoilt l i h e f = sym (sym e ∙ one-more l i h ∙ rw f refl)
+-- a says whether the bytes before place i are digits
+module _ (l : List ℕ) (i : ℕ) where
+  -- one byte more
+  pub one-further : (a : Bool) {d : Bool} → i < length l → d ≡ isDigit (getD l i 0) → a && allDigits (drop i l) ≡ allDigits l
+      → (a && d) && allDigits (drop (i + 1) l) ≡ allDigits l
+  one-further true h e v = rw (add-one, e) (sym (one-more l i h) ∙ v)
+  one-further false h e v = v
 
--- a byte that is one
-pub passed : (l : List ℕ) (i : ℕ) → i < length l → allDigits (drop i l) ≡ allDigits l → isDigit (getD l i 0) ≡ true → allDigits (drop (i + 1) l) ≡ allDigits l
-passed l i h e f = rw add-one (sym (one-more l i h ∙ rw f refl) ∙ e)
+  -- none is left
+  pub all-read : (a : Bool) → length l ≤ i → a && allDigits (drop i l) ≡ allDigits l → a ≡ allDigits l
+  all-read true h v = none-left l i h ∙ v
+  all-read false h v = v
 
 digit-at : (l : List ℕ) (i : ℕ) → allDigits l ≡ true → i < length l → isDigit (getD l i 0) ≡ true
 unfolding allDigits

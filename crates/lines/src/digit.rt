@@ -9,11 +9,9 @@ ghost use Rattle.lines.specs.Hexadecimal.{isDigit, digitValue, allDigits
 fn is_digit(b: u8) -> bool
     ensures { λ r. ⌜ r ≡ isDigit b ⌝ }
 {
-    match b {
-        b'0'..=b'9' => true,
-        b'a'..=b'f' => true,
-        _ => false,
-    }
+    let digit = (b'0' <= b) & (b <= b'9');
+    let letter = (b'a' <= b) & (b <= b'f');
+    digit | letter
 }
 
 fn digit_value(b: u8) -> u64
@@ -26,18 +24,18 @@ fn digit_value(b: u8) -> u64
     (b - 87) as u64
 }
 
+// No byte ends the loop early, so that the compiler can look at several bytes at a time.
 pub fn all_digits(line: &Text) -> bool
     requires { ⌜ length (now line) ≡ 40 ⌝ }
     ensures { λ r. ⌜ r ≡ allDigits (now (line .entry)) ⌝ }
 {
+    let mut all = true;
     let mut i = 0;
     while i < 40 {
-        if !is_digit(line[i]) {
-            return false;
-        }
+        all = all & is_digit(line[i]);
         i += 1;
     }
-    true
+    all
 }
 
 // The number of n digits from place at on: below 16^n, so that nothing wraps.
