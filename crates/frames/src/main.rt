@@ -53,8 +53,8 @@ fn answer_all(
     input: &mut [u8],
     output: &mut Output,
 ) -> Ended
-    requires { ⌜ (Ready (now words) (now bytes)) × (length (now input) ≡ 16384) × (19 * length (now input) ≤ length (now output)) ⌝ }
-    requires { ⌜ Represents (core (now words) (now bytes) (now permanent) (now scratch) (now map)) firstWorld ⌝ }
+    requires lent { ⌜ (Ready (now words) (now bytes)) × (length (now input) ≡ 16384) × (19 * length (now input) ≤ length (now output)) ⌝ }
+    requires first { ⌜ Represents (core (now words) (now bytes) (now permanent) (now scratch) (now map)) firstWorld ⌝ }
     ensures { λ r. ⌜ AllAnswered words bytes permanent scratch map input output r ⌝ }
 {
     let mut line = [0u8; 40];

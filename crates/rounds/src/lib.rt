@@ -75,8 +75,8 @@ pub fn answer_chunk(
     output: &mut Output,
     steps: &mut usize,
 ) -> Fed
-    requires { ⌜ (Ready (now words) (now bytes)) × (length (now line) ≡ 40) × (19 * length (now input) ≤ length (now output)) ⌝ }
-    requires { ⌜ (Counts n (now input)) × (19 * n < now steps) ⌝ }
+    requires lent { ⌜ (Ready (now words) (now bytes)) × (length (now line) ≡ 40) × (19 * length (now input) ≤ length (now output)) ⌝ }
+    requires counted { ⌜ (Counts n (now input)) × (19 * n < now steps) ⌝ }
     ensures fed { λ r. ⌜ BytesFed words bytes permanent scratch map line len output 0 (take n (now (input .entry))) r ⌝ }
     ensures wrote { λ r. ⌜ Wrote (now (steps .entry)) (now (steps .exit)) (r .written) ⌝ }
 {
