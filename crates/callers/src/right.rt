@@ -1,4 +1,4 @@
-// The rights of a thread.
+// The rights of a thread, by the table in force.
 use rights::Right;
 use tables::Bytes;
 use tables::Words;
@@ -7,11 +7,17 @@ ghost use Prim.Native.Nat.{_<_};
 ghost use Rattle.model.specs.Checks.{hasRight};
 ghost use Rattle.tables.specs.Contract.{before};
 
-// Whether a thread has a right in an area.
+// Whether a thread has a right in an area; one that is not started has none.
 pub fn has_right(words: &Words, bytes: &Bytes, t: usize, right: Right, area: u64) -> bool
     requires { ⌜ t < 16 ⌝ }
     ensures { λ r. ⌜ r ≡ hasRight (before words bytes) t right area ⌝ }
 {
     let kind = tables::thread_at(words, t).kind;
-    rights::allowed_in(kind, area, right)
+    if kind == 0 {
+        return false;
+    }
+    if 3 < kind {
+        return false;
+    }
+    tables::right_at(bytes, rights::place(kind, area, right)) == b'1'
 }

@@ -19,7 +19,7 @@ use Rattle.model.specs.Checks.{isStarted}
 use Rattle.model.specs.Threads.{startState, endState}
 use Rattle.model.specs.Scopes.{makeState, pushed, enterState, popped, exitState}
 use Rattle.model.specs.Objects.{currentAt, allocateState}
-use Rattle.model.specs.Calls.{Call, start, end, make, enter, exit, allocate, store, write, asks, callStatus, callState}
+use Rattle.model.specs.Calls.{Call, start, end, make, enter, exit, allocate, store, write, asks, configure, callStatus, callState}
 use Rattle.model.specs.History.{Object, History, blank, threadRow, occurrences, total, historyStart, historyEnter, historyExit, historyAllocate, historyStep}
 use Rattle.model.specs.Invariant.{parentIn, stacksIn, Good}
 use Rattle.model.proofs.Accepted.{fitted-ok, start-ok, end-ok, make-ok, MakeOk, enter-ok, EnterOk, exit-ok, ExitOk, allocate-ok, AllocateOk}
@@ -33,6 +33,7 @@ use Rattle.model.proofs.Alters.{same-field, make-alters, allocate-alter
 use Rattle.model.proofs.KeepsThreads.{kind-stacks, idle-empty}
 use Rattle.model.proofs.KeepsEnter.{enter-thread, enter-thread-other, enter-stacks}
 use Rattle.model.proofs.KeepsExit.{exit-thread, exit-thread-other, top-area, exit-more-area, exit-last-area, pop-is, exit-stacks}
+use Rattle.model.proofs.KeepsConfiguration.{configure-same}
 use Rattle.model.proofs.Keeps.{first-stacks, first-area}
 
 -- ---- set-up
@@ -212,3 +213,4 @@ same-call s m b (allocate t q r) v g e z = same-allocate s t q r g (allocate-ok 
 same-call s m b (store t p q r) v g e z = e
 same-call s m b (write t p q r) v g e z = e
 same-call s m b (asks x) v g e z = e
+same-call s m b (configure x) v g e z = configure-same s x b e

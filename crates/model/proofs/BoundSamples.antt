@@ -6,7 +6,7 @@ use mathlib.Core.Path.{_≡_, refl}
 use lib.ListN.{set}
 use Rattle.layout.specs.Choice.{pick}
 use Rattle.rights.specs.declared.Right.the-variants.{Enter, Allocate, Use, Refer}
-use Rattle.rights.specs.Rights.{Class, Heap, Immortal, Scope, classOf, allows}
+use Rattle.rights.specs.Rights.{Class, Heap, Immortal, Scope, classOf, allows, builtIn}
 use Rattle.model.specs.State.{areaAt, withGeneration, withArea}
 use Rattle.model.specs.SetUp.{setUpStatus, setUpState}
 use Rattle.model.specs.Calls.{Call, start, end, make, enter, exit, allocate, store, load, write, read, viewStatus}
@@ -184,9 +184,10 @@ set-up-sizes = refl
 
 -- ---- rights
 
--- the digits E, A, U, R of a kind and a class
+-- the digits E, A, U, R of a kind and a class in the constant table
 pub digits : ℕ → Class → List ℕ
-digits k c = pick (allows k c Enter) 1 0 ∷ pick (allows k c Allocate) 1 0 ∷ pick (allows k c Use) 1 0 ∷ pick (allows k c Refer) 1 0 ∷ []
+digits k c =
+    pick (allows builtIn k c Enter) 1 0 ∷ pick (allows builtIn k c Allocate) 1 0 ∷ pick (allows builtIn k c Use) 1 0 ∷ pick (allows builtIn k c Refer) 1 0 ∷ []
 
 -- document 01's table, each row heap, immortal, scope: ordinary, real-time, no-heap
 pub rights :

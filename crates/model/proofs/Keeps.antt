@@ -10,11 +10,12 @@ use native.Mathlib.Omega.{arith}
 use borrow.Author.Tests.{eqb-true, ltb-true, ltb-false, not-false}
 use Rattle.layout.specs.Choice.{refuse, cases, peel}
 use Rattle.layout.specs.Stack.{down}
+use Rattle.rights.specs.Loading.{built-in-loadable}
 use Rattle.model.specs.declared.Area.{Area}
 use Rattle.model.specs.declared.Lengths.{Lengths}
 use Rattle.model.specs.State.{State, Memory, noArea, noThread, areaAt, entriesOf}
 use Rattle.model.specs.SetUp.{setUpStatus, newThread, firstState, setUpState}
-use Rattle.model.specs.Calls.{Call, start, end, make, enter, exit, allocate, store, write, asks, callStatus, callState, outcomeOf}
+use Rattle.model.specs.Calls.{Call, start, end, make, enter, exit, allocate, store, write, asks, configure, callStatus, callState, outcomeOf}
 use Rattle.model.specs.History.{occurrences, total}
 use Rattle.model.specs.Invariant.{ThreadGood, StandingGood, ScopeGood, Placed, stacksIn, Good}
 use Rattle.model.proofs.Accepted.{fitted-ok, start-ok, end-ok, make-ok, enter-ok, exit-ok, allocate-ok}
@@ -23,6 +24,7 @@ use Rattle.model.proofs.KeepsThreads.{good-start, good-end}
 use Rattle.model.proofs.KeepsObjects.{good-make, good-allocate}
 use Rattle.model.proofs.KeepsEnter.{good-enter}
 use Rattle.model.proofs.KeepsExit.{good-exit}
+use Rattle.model.proofs.KeepsConfiguration.{good-configure}
 
 -- ---- set-up
 
@@ -122,6 +124,7 @@ module _ (h i : ℕ) (n : Lengths) where
     standing = first-standing;
     scopes = λ a k l. first-scopes a k;
     placed = first-placed (set-up-ok e);
+    rights = built-in-loadable;
     nesting = rw first-stacks record {
       size = refl;
       counts = λ a k l. first-area a .count ∙ sym (none-on a);
@@ -151,6 +154,7 @@ good-call s m (allocate t q r) g e = good-allocate s t q r g (allocate-ok s t q 
 good-call s m (store t p q r) g e = g
 good-call s m (write t p q r) g e = g
 good-call s m (asks x) g e = g
+good-call s m (configure x) g e = good-configure s x g e
 
 -- any call
 pub good-outcome : (s : State) (m : Memory) (c : Call) → Good s → Good (outcomeOf s m c .state)

@@ -11,13 +11,14 @@ use Rattle.layout.specs.Choice.{cases}
 use Rattle.model.specs.State.{State, Memory, noArea}
 use Rattle.model.specs.SetUp.{lengthsOf, setUpStatus, firstState}
 use Rattle.model.specs.Checks.{fits}
-use Rattle.model.specs.Calls.{Call, start, end, make, enter, exit, allocate, store, write, asks, callStatus, callValue, callState, callMemory}
+use Rattle.model.specs.Calls.{Call, start, end, make, enter, exit, allocate, store, write, asks, configure, callStatus, callValue, callState, callMemory}
 use Rattle.model.specs.History.{History, blank, historyStep}
 use Rattle.model.specs.Invariant.{Good}
 use Rattle.model.proofs.Accepted.{fitted-ok, admitted, make-ok, enter-ok, exit-ok, allocate-ok, StoreOk, store-ok, DataOk, data-ok}
 use Rattle.model.proofs.Lists.{occ-nil}
 use Rattle.model.proofs.Sound.{Same, usedIn, Sound}
-use Rattle.model.proofs.MemoryScopes.{sound-start, sound-end, sound-make, sound-enter, sound-exit}
+use Rattle.model.proofs.KeepsConfiguration.{configure-stays}
+use Rattle.model.proofs.MemoryScopes.{stays-sound, sound-start, sound-end, sound-make, sound-enter, sound-exit}
 use Rattle.model.proofs.MemoryWords.{sound-store, sound-write}
 use Rattle.model.proofs.MemoryObjects.{sound-allocate}
 
@@ -36,6 +37,7 @@ sound-call s m b (write t p q r) o e g i =
     let k : DataOk s m t p q = data-ok s m t p q (admitted s m t _ e .1) in
     sound-write s m b o p (k .used .object) q (k .index) r
 sound-call s m b (asks x) o e g i = o
+sound-call s m b (configure x) o e g i = stays-sound s m b o _ b g i (configure-stays s x) refl refl
 
 -- ---- set-up
 

@@ -4,6 +4,7 @@ pub mod Samples
 pub mod ValueSamples
 pub mod BoundSamples
 pub mod MeetingSamples
+pub mod RightsSamples
 pub mod Accepted
 pub mod Lists
 pub mod Nesting
@@ -19,6 +20,7 @@ pub mod KeepsThreads
 pub mod KeepsObjects
 pub mod KeepsEnter
 pub mod KeepsExit
+pub mod KeepsConfiguration
 pub mod Keeps
 pub mod Agrees
 pub mod NestingClaims
@@ -35,6 +37,7 @@ pub mod Traces
 pub mod ValueMeanings
 pub mod Openings
 pub mod Stored
+pub mod Configured
 pub mod LineClaims
 pub mod Theorem
 pub mod Reached

@@ -12,7 +12,7 @@ use borrow.Author.Tests.{eqb-true, eqb-false, eq-eqb, ne-eqb}
 use Rattle.layout.specs.Choice.{cases}
 use Rattle.layout.specs.Handle.{offsetOf}
 use Rattle.model.specs.State.{State, Memory, areaAt, current, storeOf}
-use Rattle.model.specs.Calls.{Call, start, end, make, enter, exit, allocate, store, write, asks}
+use Rattle.model.specs.Calls.{Call, start, end, make, enter, exit, allocate, store, write, asks, configure}
 use Rattle.model.specs.Run.{Line, World}
 use Rattle.model.specs.History.{Object, History, threadRow, below, occurrences, handles, isScopeOnNone, historyStart, historyEnter, historyExit, historyAllocate, historyStep, historyLine, historyFrom, historyOf}
 use Rattle.model.specs.Claims.{Open, Walk, ends, goes, Meets, here, up, InOrder, keep, skip, onRow, scan, In, Among, Within, Allocates, Since, made, stays, Names, Claims}
@@ -225,6 +225,7 @@ module _ (b : History) (a : ℕ) (o : Object) (i : In o (b .objects a)) where
   kept-step (store t p q r) v = inl i
   kept-step (write t p q r) v = inl i
   kept-step (asks x) v = inl i
+  kept-step (configure x) v = inl i
 
   -- nothing vanishes: after a line an object is there, or its handle is one of those gone
   pub kept-or-gone : (l : Line) → KeptOrGone (historyLine b l)

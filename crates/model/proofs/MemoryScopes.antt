@@ -22,7 +22,7 @@ use Rattle.model.proofs.MemoryKept.{Moved, moved-same, still-same, move
 
 module _ (s : State) (m : Memory) (b : History) (o : Sound s m b) where
   -- no area is touched, and no object
-  stays-sound : (n : State) (c : History) → Good n → Same n c → Stays s n → c .objects ≡ b .objects → c .gone ≡ b .gone → Sound n m c
+  pub stays-sound : (n : State) (c : History) → Good n → Same n c → Stays s n → c .objects ≡ b .objects → c .gone ≡ b .gone → Sound n m c
   stays-sound n c g i k eo eg = sound-still s m b o n c g i (k .lengths) (λ a. moved-same (k .all a)) eo eg
       (λ a. still-same (k .all a)) (λ a z. sym (ap (λ (x : Area). x .count) (k .all a .area)) ∙ z)
 

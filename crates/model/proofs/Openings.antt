@@ -15,13 +15,14 @@ use Rattle.model.specs.State.{State, Memory, areaAt, threadAt, entriesOf
 use Rattle.model.specs.SetUp.{firstState}
 use Rattle.model.specs.Scopes.{enterState, enterValue, popped, exitState, exitValue}
 use Rattle.model.specs.Objects.{currentAt}
-use Rattle.model.specs.Calls.{Call, start, end, make, enter, exit, allocate, store, write, asks, callStatus, callValue, callState}
+use Rattle.model.specs.Calls.{Call, start, end, make, enter, exit, allocate, store, write, asks, configure, callStatus, callValue, callState}
 use Rattle.model.specs.Run.{Line}
 use Rattle.model.specs.History.{History, total, historyExit, historyOf}
 use Rattle.model.specs.Values.{openingStep, lastOpening, entryGeneration, entriesLeft}
 use Rattle.model.proofs.Accepted.{fitted-ok, MakeOk, make-ok, EnterOk, enter-ok, ExitOk, exit-ok, AllocateOk, allocate-ok}
 use Rattle.model.proofs.Sound.{generationIn, Sound}
 use Rattle.model.proofs.Bounds.{by-area, current-area}
+use Rattle.model.proofs.KeepsConfiguration.{configure-stays}
 use Rattle.model.proofs.Keeps.{first-scope}
 use Rattle.model.proofs.Agrees.{row-top, left-count}
 use Rattle.model.proofs.NestingClaims.{history-nesting}
@@ -108,6 +109,7 @@ module _ (s : State) (m : Memory) (b : History) (o : Sound s m b) where
   carried-call (store t p q r) z a = carried-same refl
   carried-call (write t p q r) z a = carried-same refl
   carried-call (asks x) z a = carried-same refl
+  carried-call (configure x) z a = carried-stays (callState s m (configure x)) (configure-stays s x) a
 
 -- ---- generations and openings
 

@@ -1,7 +1,7 @@
 -- One call: the line that it leaves, and what it leads to where it is accepted, refused, or lent a memory of other lengths.
 -- Assumes nothing.
 use Prim.Native.Nat.{ℕ}
-use mathlib.Core.Bool.{true, false, not}
+use mathlib.Core.Bool.{true, false, not, true≢false}
 use mathlib.Core.Path.{_≡_, refl, ap}
 use mathlib.Core.Logic.{_≢_, _⊎_, inl, inr, ⊎-elim}
 use lib.Dec.{eqb}
@@ -10,7 +10,7 @@ use borrow.Author.Tests.{eqb-true, eqb-false, eq-eqb, ne-eqb}
 use Rattle.layout.specs.Choice.{pick, cases, hit, skip}
 use Rattle.model.specs.State.{State, Memory}
 use Rattle.model.specs.Checks.{fits, fitted}
-use Rattle.model.specs.Calls.{Call, start, end, make, enter, exit, allocate, store, write, Question, loads, reads, views, viewsStatus, asks, view, callStatus, callValue, callState, callMemory, outcomeOf}
+use Rattle.model.specs.Calls.{Call, start, end, make, enter, exit, allocate, store, write, Question, loads, reads, views, viewsStatus, asks, view, configure, Configuration, isSupplied, callStatus, callValue, callState, callMemory, outcomeOf}
 use Rattle.model.specs.Run.{Line}
 use Rattle.model.specs.History.{History, historyStep, historyLine}
 use Rattle.model.proofs.Sound.{Sound}
@@ -71,29 +71,30 @@ transition s m c = cases (eqb (callStatus s m c) 0)
     (λ e. rw e (inl record { passed = eqb-true (callStatus s m c) 0 e; state = refl; memory = refl; status = refl; value = refl }))
     (λ e. rw e (inr record { state = refl; memory = refl; status = eqb-false (callStatus s m c) 0 e; number = inl refl }))
 
--- the one call that has no status
-data IsView : Call → Type 0 where
-  is-view : (t p : ℕ) → IsView (view t p)
+-- the calls that 1 does not refuse: the view, which has no status, and those that are lent no buffer
+data Skips1 : Call → Type 0 where
+  views-part : (t p : ℕ) → Skips1 (view t p)
+  configures : (x : Configuration) → Skips1 (configure x)
 
 -- lent a memory of the lengths of set-up: the rest of the refusals counts
 pub fit-fitted : (s : State) (m : Memory) → fits s m ≡ true → (rest : ℕ) → fitted s m rest ≡ rest
 unfolding fitted
 fit-fitted s m f rest = skip (not (fits s m)) 1 rest (ap not f)
 
--- lent a memory of other lengths: it is refused by 1, or is a view, which shows no part; and nothing changes
+-- lent a memory of other lengths: it is refused by 1, and nothing changes; or it is a view, which shows no part, or lent nothing
 module _ (s : State) (n : Memory) (u : fits s n ≡ false) where
   pub unfit-fitted : (rest : ℕ) → fitted s n rest ≡ 1
   unfolding fitted
   unfit-fitted rest = hit (not (fits s n)) 1 _ (ap not u)
 
-  unfit-question : (x : Question) → (callStatus s n (asks x) ≡ 1) ⊎ IsView (asks x)
+  unfit-question : (x : Question) → (callStatus s n (asks x) ≡ 1) ⊎ Skips1 (asks x)
   unfit-question (loads t p q) = inl (unfit-fitted _)
   unfit-question (reads t p q) = inl (unfit-fitted _)
-  unfit-question (views t p) = inr (is-view t p)
+  unfit-question (views t p) = inr (views-part t p)
   unfit-question (viewsStatus t p) = inl (unfit-fitted _)
 
   -- "1: lengths are not those of set-up", before every other refusal
-  unfit-status : (c : Call) → (callStatus s n c ≡ 1) ⊎ IsView c
+  unfit-status : (c : Call) → (callStatus s n c ≡ 1) ⊎ Skips1 c
   unfit-status (start t p) = inl (unfit-fitted _)
   unfit-status (end t) = inl (unfit-fitted _)
   unfit-status (make t q r) = inl (unfit-fitted _)
@@ -103,26 +104,52 @@ module _ (s : State) (n : Memory) (u : fits s n ≡ false) where
   unfit-status (store t p q r) = inl (unfit-fitted _)
   unfit-status (write t p q r) = inl (unfit-fitted _)
   unfit-status (asks x) = unfit-question x
+  unfit-status (configure x) = inr (configures x)
 
   -- what it is lent is left as it was
   pub unfit-memory : (c : Call) → outcomeOf s n c .memory ≡ n
-  unfit-memory c = ⊎-elim by-1 by-view (unfit-status c)
+  unfit-memory c = ⊎-elim by-1 by-none (unfit-status c)
     where
       by-1 : callStatus s n c ≡ 1 → outcomeOf s n c .memory ≡ n
       by-1 e = unfold outcomeOf in rw e refl
 
-      by-view : {d : Call} → IsView d → outcomeOf s n d .memory ≡ n
-      by-view (is-view t p) = unfold outcomeOf in refl
+      by-none : {d : Call} → Skips1 d → outcomeOf s n d .memory ≡ n
+      by-none (views-part t p) = unfold outcomeOf in refl
+      by-none (configures x) = unfold outcomeOf in cases (eqb (callStatus s n (configure x)) 0) (λ e. rw e refl) (λ e. rw e refl)
 
   -- and so is what is kept
   pub unfit : (m : Memory) (c : Call) → Transition s m (lineFor s n c) (outcomeOf s n c .state) m
-  unfit m c = ⊎-elim by-1 by-view (unfit-status c)
+  unfit m c = ⊎-elim by-1 by-none (unfit-status c)
     where
       by-1 : callStatus s n c ≡ 1 → Transition s m (lineFor s n c) (outcomeOf s n c .state) m
       by-1 e = unfold outcomeOf in rw e (inr record { state = refl; memory = refl; status = λ z. omega arith; number = inr refl })
 
-      by-view : {d : Call} → IsView d → Transition s m (lineFor s n d) (outcomeOf s n d .state) m
-      by-view (is-view t p) = unfold outcomeOf in inl record { passed = refl; state = refl; memory = refl; status = refl; value = refl }
+      by-none : {d : Call} → Skips1 d → Transition s m (lineFor s n d) (outcomeOf s n d .state) m
+      by-none (views-part t p) = unfold outcomeOf in inl record { passed = refl; state = refl; memory = refl; status = refl; value = refl }
+      by-none (configures x) = unfold outcomeOf in cases (eqb (callStatus s m (configure x)) 0)
+          (λ e. rw e (inl record { passed = eqb-true (callStatus s m (configure x)) 0 e; state = refl; memory = refl; status = refl; value = refl }))
+          (λ e. rw e (inr record { state = refl; memory = refl; status = eqb-false (callStatus s m (configure x)) 0 e; number = inl refl }))
+
+-- a call that is lent no buffer answers and changes the state alike whatever is kept, and what is kept stays
+pub record Apart (s : State) (m n : Memory) (c : Call) : Type 0 where
+  pub reply : outcomeOf s m c .reply ≡ outcomeOf s n c .reply
+  pub state : outcomeOf s m c .state ≡ outcomeOf s n c .state
+  pub memory : outcomeOf s m c .memory ≡ m
+
+pub unsupplied-apart : (s : State) (m n : Memory) (c : Call) → isSupplied c ≡ false → Apart s m n c
+unfolding outcomeOf
+unsupplied-apart s m n (start t p) e = absurd (true≢false e)
+unsupplied-apart s m n (end t) e = absurd (true≢false e)
+unsupplied-apart s m n (make t q r) e = absurd (true≢false e)
+unsupplied-apart s m n (enter t q) e = absurd (true≢false e)
+unsupplied-apart s m n (exit t) e = absurd (true≢false e)
+unsupplied-apart s m n (allocate t q r) e = absurd (true≢false e)
+unsupplied-apart s m n (store t p q r) e = absurd (true≢false e)
+unsupplied-apart s m n (write t p q r) e = absurd (true≢false e)
+unsupplied-apart s m n (asks x) e = absurd (true≢false e)
+unsupplied-apart s m n (configure x) e = cases (eqb (callStatus s m (configure x)) 0)
+    (λ z. record { reply = rw z refl; state = rw z refl; memory = rw z refl })
+    (λ z. record { reply = rw z refl; state = rw z refl; memory = rw z refl })
 
 -- lent the kept memory, or one of other lengths, which is not kept
 pub step-transition : (s : State) (m n : Memory) → fits s m ≡ true → (n ≡ m) ⊎ (fits s n ≡ false) → (c : Call)

@@ -11,9 +11,10 @@ use lib.Seq.{getD-set-same, getD-set-other}
 use borrow.Author.Tests.{eqb-true, eqb-false}
 use Rattle.layout.specs.Choice.{cases}
 use Rattle.layout.specs.Stack.{down}
+use Rattle.rights.specs.Rights.{Loadable}
 use Rattle.model.specs.declared.Area.{Area}
 use Rattle.model.specs.declared.Lengths.{Lengths}
-use Rattle.model.specs.State.{Thread, State, noArea, noThread, areaAt, rowAt, threadAt, withArea, withRow, withThread, withTaken, entriesOf, stackAt, innermost, displayAt}
+use Rattle.model.specs.State.{Thread, State, noArea, noThread, areaAt, rowAt, threadAt, withArea, withRow, withThread, withTaken, withRights, entriesOf, stackAt, innermost, displayAt}
 use Rattle.model.specs.History.{total}
 use Rattle.model.specs.Invariant.{branchOf, firstOf, Nesting, ThreadGood, StandingGood, ScopeGood, Placed, parentIn, stacksIn, NestingIn, GoodWith, Good}
 use Rattle.model.proofs.Lists.{innermost-is, each-set}
@@ -85,7 +86,7 @@ nesting-same {par} {par′} {dis} {dis′} {rows = rows} v f c e = record {
 
 -- at the end of a call the state itself is nested
 pub nested-good : {n s : State} → GoodWith n s → NestingIn s → Good s
-nested-good g v = record { areas = g .areas; rows = g .rows; threads = g .threads; standing = g .standing; scopes = g .scopes; placed = g .placed; nesting = v }
+nested-good g v = record { areas = g .areas; rows = g .rows; threads = g .threads; standing = g .standing; scopes = g .scopes; placed = g .placed; rights = g .rights; nesting = v }
 
 -- an area that lies where it lay, with no more used words than it has
 pub record SamePlace (x y : Area) : Type 0 where
@@ -129,6 +130,7 @@ module _ {n : State} (s : State) (g : GoodWith n s) where
     standing = g .standing;
     scopes = g .scopes;
     placed = placed-same s (withThread s t h) (g .placed) refl refl same;
+    rights = g .rights;
     nesting = g .nesting;
   }
 
@@ -142,6 +144,21 @@ module _ {n : State} (s : State) (g : GoodWith n s) where
     standing = g .standing;
     scopes = g .scopes;
     placed = placed-same s (withRow s q r) (g .placed) refl refl same;
+    rights = g .rights;
+    nesting = g .nesting;
+  }
+
+  -- the rights table is replaced
+  pub good-rights : (r : List ℕ) → Loadable r → GoodWith n (withRights s r)
+  unfolding withRights
+  good-rights r o = record {
+    areas = g .areas;
+    rows = g .rows;
+    threads = g .threads;
+    standing = g .standing;
+    scopes = g .scopes;
+    placed = placed-same s (withRights s r) (g .placed) refl refl same;
+    rights = o;
     nesting = g .nesting;
   }
 
@@ -162,6 +179,7 @@ module _ {n : State} (s : State) (g : GoodWith n s) where
       standing = λ a h. area-by StandingGood a (λ e. low (omega arith)) (λ ne. g .standing a h);
       scopes = λ a h l. area-by ScopeGood a (λ e. high (omega arith)) (λ ne. g .scopes a h l);
       placed = o;
+      rights = g .rights;
       nesting = g .nesting;
     }
 

@@ -9,9 +9,10 @@ use Rattle.layout.specs.Handle.{handleOf, offsetOf, areaOf, generationOf}
 use Rattle.layout.specs.Header.{headerOf, slotsOf, dataOf}
 use Rattle.layout.specs.Stack.{down}
 use Rattle.bitmap.specs.Bitmap.{bitAt, withBit, withoutBit, cleared}
-use Rattle.rights.specs.Rights.{classOf, rightsRows, rightDigit, allows}
+use Rattle.layout.specs.Below.{allBelow, someBelow}
+use Rattle.rights.specs.Rights.{classOf, allows, textOf, rightsRows, builtIn, isBinary, onlyBinary, allocatorUses, allocatorsUse, isTable}
 use Rattle.layout.specs.Display.{rowHolds}
-use Rattle.model.specs.State.{State, Memory, noArea, withWords, withUsed, withGeneration, withCount, withParent, withKind, withStack, withArea, withRow, withThread, withTaken, entriesOf, innermost, isMade, displayHolds, withStore}
+use Rattle.model.specs.State.{State, Memory, noArea, withWords, withUsed, withGeneration, withCount, withParent, withKind, withStack, withArea, withRow, withThread, withTaken, withRights, entriesOf, innermost, isMade, displayHolds, withStore}
 use Rattle.model.specs.SetUp.{standing, newThread, firstState}
 use Rattle.model.specs.Checks.{fits, fitted, called, hasRight, live, isObject, isReference, useRest}
 use Rattle.model.specs.Threads.{startRest, startState, endRest, endState}
@@ -19,17 +20,19 @@ use Rattle.model.specs.Scopes.{makeRest, makeState, otherParent, generat
 use Rattle.model.specs.Objects.{allocateRest, allocateState, filled, objectWords, objectBits, allocateMemory, allocateValue}
 use Rattle.model.specs.References.{mayRefer, storeAfter, slotRest, referenceRest, storeRest, loadRest}
 use Rattle.model.specs.Data.{dataRest, viewWords}
+use Rattle.model.specs.Configuration.{anyStarted, loadRightsStatus, loadRightsState}
 use Rattle.model.specs.Calls.{Call, start, make, enter, allocate, Reply, outcomeOf}
 use Rattle.model.specs.Run.{World, kept, step, begin}
 
 -- what a call answers
 unfoldable pub answer : World → Call → Reply
-unfolding refuse handleOf offsetOf areaOf generationOf headerOf slotsOf dataOf down bitAt withBit withoutBit cleared classOf rightsRows rightDigit allows rowHolds
-    withArea withRow withThread withTaken entriesOf innermost isMade displayHolds withStore firstState fits fitted called hasRight live isObject isReference useRest
+unfolding refuse handleOf offsetOf areaOf generationOf headerOf slotsOf dataOf down bitAt withBit withoutBit cleared classOf allows textOf rightsRows builtIn
+    allBelow someBelow isBinary onlyBinary allocatorUses allocatorsUse isTable rowHolds
+    withArea withRow withThread withTaken withRights entriesOf innermost isMade displayHolds withStore firstState fits fitted called hasRight live isObject isReference useRest
     startRest startState endRest endState makeRest makeState otherParent generationsOut enterRest enteredArea pushed enterState enterValue
     exitRest leftArea popped exitState exitValue
     allocateRest allocateState filled objectWords objectBits allocateMemory allocateValue mayRefer storeAfter slotRest referenceRest storeRest loadRest
-    dataRest viewWords outcomeOf step begin
+    dataRest viewWords anyStarted loadRightsStatus loadRightsState outcomeOf step begin
 answer w c = outcomeOf (w .state) (w .memory) c .reply
 
 unfoldable pub status : World → Call → ℕ
@@ -101,6 +104,7 @@ busy = record {
         ∷ withKind newThread 3 ∷ replicate 12 newThread;
     lengths = record { permanent = 9; scratch = 12; map = 1 };
     taken = 10;
+    rights = builtIn;
   };
   memory = record {
     permanent = 16385 ∷ 0 ∷ 0 ∷ 32770 ∷ 0 ∷ 0 ∷ 0 ∷ 0 ∷ 9 ∷ [];

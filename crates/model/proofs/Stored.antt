@@ -20,7 +20,7 @@ use Rattle.model.specs.Scopes.{makeState, enterState, exitState}
 use Rattle.model.specs.Objects.{currentAt, allocateState, allocateMemory, allocateValue}
 use Rattle.model.specs.References.{storeAfter, loadRest}
 use Rattle.model.specs.Data.{dataIndex}
-use Rattle.model.specs.Calls.{Call, start, end, make, enter, exit, allocate, store, write, asks, load, callStatus, callValue, callState, callMemory}
+use Rattle.model.specs.Calls.{Call, start, end, make, enter, exit, allocate, store, write, asks, configure, load, callStatus, callValue, callState, callMemory}
 use Rattle.model.specs.Run.{Line}
 use Rattle.model.specs.History.{Object, History, occurrences, handles, historyStart, historyEnter, historyAllocate, historyStep, historyFrom, historyOf}
 use Rattle.model.specs.Values.{storedStep, lastStored}
@@ -164,6 +164,7 @@ module _ (s : State) (m : Memory) (b : History) (o : Sound s m b) where
         let k : DataOk s m t p q = data-ok s m t p q (admitted s m t _ e .1) in
         slots-write p (k .used .object) f w q r (k .index)
     slots-call (asks x) e z = w
+    slots-call (configure x) e z = slots-still (callState s m (configure x)) (λ a. carried-call s m b o (configure x) e a .start)
 
 -- ---- the lines
 

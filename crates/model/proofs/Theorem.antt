@@ -10,6 +10,7 @@ use Rattle.layout.specs.Handle.{offsetOf, areaOf}
 use Rattle.model.specs.State.{Memory, wordAt}
 use Rattle.model.specs.SetUp.{lengthsOf, setUpStatus}
 use Rattle.model.specs.Checks.{fits, live}
+use Rattle.model.specs.Calls.{Call, isSupplied}
 use Rattle.model.specs.Run.{Supplied, kept, other, Element, Line, World, suppliedTo, step, run, begin}
 use Rattle.model.specs.History.{Object, History, blank, occurrences, handles, historyFrom, historyOf}
 use Rattle.model.specs.Claims.{In, Among, Since, made, stays, Names, Claims}
@@ -24,6 +25,7 @@ use Rattle.model.proofs.Outcomes.{Transition, sound-line, lineFor, step
 use Rattle.model.proofs.Traces.{none-in, born, gone-run, among-some, area-below, open-area}
 use Rattle.model.proofs.Openings.{Opened, opened-first, opened-line}
 use Rattle.model.proofs.Stored.{Stored, stored-line}
+use Rattle.model.proofs.Configured.{InForce, in-force-first, in-force-line}
 use Rattle.model.proofs.LineClaims.{AllAnswer, line-answers, each-answers}
 
 -- ---- one element of the list
@@ -34,7 +36,7 @@ Holds w = Sound (w .state) (w .memory) (historyOf (w .trace))
 
 module _ (w : World) (e : Element) where
   abbrev supplied : Memory
-  supplied = suppliedTo (w .state) (w .memory) (e .supplied)
+  supplied = suppliedTo (w .state) (w .memory) (e .call) (e .supplied)
 
   abbrev line : Line
   line = lineFor (w .state) supplied (e .call)
@@ -44,15 +46,15 @@ module _ (w : World) (e : Element) where
   trace-is = refl
 
   -- what is lent is the kept memory, or has other lengths
-  supplied-is : (l : Supplied) → (suppliedTo (w .state) (w .memory) l ≡ w .memory) ⊎ (fits (w .state) (suppliedTo (w .state) (w .memory) l) ≡ false)
-  supplied-is kept = inl refl
-  supplied-is (other n) = cases (fits (w .state) n)
-      (λ t. inl (rw t))
-      (λ f. inr (rw f f))
+  supplied-is : (c : Call) (l : Supplied) → (suppliedTo (w .state) (w .memory) c l ≡ w .memory) ⊎ (fits (w .state) (suppliedTo (w .state) (w .memory) c l) ≡ false)
+  supplied-is c kept = inl refl
+  supplied-is c (other n) = cases (isSupplied c)
+      (λ i. cases (fits (w .state) n) (λ t. inl (rw (i, t))) (λ f. inr (rw (i, f) f)))
+      (λ i. inl (rw i))
 
   step-is : Holds w → Transition (w .state) (w .memory) line (step w e .state) (step w e .memory)
   unfolding step
-  step-is o = step-transition (w .state) (w .memory) supplied (o .supplied) (supplied-is (e .supplied)) (e .call)
+  step-is o = step-transition (w .state) (w .memory) supplied (o .supplied) (supplied-is (e .call) (e .supplied)) (e .call)
 
   step-holds : Holds w → Holds (step w e)
   unfolding historyFrom
@@ -65,6 +67,7 @@ record Told (w : World) : Type 0 where
   since : (a : ℕ) (x : Object) → In x (historyOf (w .trace) .objects a) → Since (x .handle) a (w .trace)
   stored : Stored (w .state) (w .memory) (w .trace)
   opened : Opened (w .state) (w .trace)
+  table : InForce (w .state) (w .trace)
   answers : AllAnswer (w .trace)
 
 module _ (w : World) (e : Element) (o : Told w) where
@@ -86,6 +89,7 @@ module _ (w : World) (e : Element) (o : Told w) where
     since = step-since;
     stored = rw trace-is (stored-line (w .state) (w .memory) (w .trace) (o .holds) (o .stored) leads (rw trace-is at now));
     opened = rw trace-is (opened-line (w .state) (w .memory) (w .trace) (o .holds) (o .opened) leads);
+    table = rw trace-is (in-force-line (w .state) (w .memory) (w .trace) (o .table) leads);
     answers = rw trace-is (line-answers (w .state) (w .memory) (w .trace) (o .holds) (o .stored) (o .opened) leads, o .answers);
   }
 
@@ -101,6 +105,7 @@ begin-told h i m e = record {
   since = λ a x k. absurd (none-in k);
   stored = λ a x k. absurd (none-in k);
   opened = opened-first h i (lengthsOf m);
+  table = in-force-first h i (lengthsOf m);
   answers = tt;
 }
 
@@ -159,9 +164,13 @@ module _ (w : World) (o : Told w) where
     loaded = λ l before i. each-answers i (o .answers) .loaded;
     entries = λ l before i. each-answers i (o .answers) .entries;
     exits = λ l before i. each-answers i (o .answers) .exits;
+    rights = o .table;
+    loadable = sound .good .rights;
+    reloads = λ l before i. each-answers i (o .answers) .reloads;
   }
 
--- the one theorem: from an accepted set-up, with any contents of the lent words, after every list of calls
+-- The one theorem: from an accepted set-up, with any contents of the lent words, after every list of calls. The list has loads of any text at any place,
+-- so this is "Soundness of references must hold under every loadable table", the table changing on the way included.
 pub every-list : (h i : ℕ) (m : Memory) → setUpStatus h i (lengthsOf m) ≡ 0 → (es : List Element)
     → Claims (run (begin h i m) es) (historyOf (run (begin h i m) es .trace))
 every-list h i m e es = claimed (run (begin h i m) es) (run-told (begin h i m) es (begin-told h i m e))

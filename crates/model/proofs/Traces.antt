@@ -11,7 +11,7 @@ use native.Mathlib.Omega.{arith}
 use borrow.Author.Tests.{eqb-true, eqb-false, ltb-true, ltb-false}
 use Rattle.layout.specs.Choice.{cases}
 use Rattle.model.specs.State.{State, Memory, current, isOpen}
-use Rattle.model.specs.Calls.{Call, start, end, make, enter, exit, allocate, store, write, asks}
+use Rattle.model.specs.Calls.{Call, start, end, make, enter, exit, allocate, store, write, asks, configure}
 use Rattle.model.specs.Run.{Element, Line, World, step, run}
 use Rattle.model.specs.History.{Object, History, threadRow, putAt, below, occurrences, handles, isScopeOnNone, historyStart, historyEnter, historyExit, historyAllocate, historyStep, historyLine, historyFrom, historyOf}
 use Rattle.model.specs.Claims.{Open, In, Among, Allocates}
@@ -84,6 +84,7 @@ module _ (b : History) (l : Line) (ok : l .reply .status ≡ 0) (a : ℕ) (x : O
   born-step (store t p q r) e i = inl i
   born-step (write t p q r) e i = inl i
   born-step (asks y) e i = inl i
+  born-step (configure y) e i = inl i
 
 pub born : (b : History) (l : Line) (a : ℕ) (x : Object) → In x (historyLine b l .objects a) → In x (b .objects a) ⊎ Allocates b l (x .handle) a
 unfolding historyLine
@@ -115,6 +116,7 @@ gone-step b (allocate t q r) v x i = i
 gone-step b (store t p q r) v x i = i
 gone-step b (write t p q r) v x i = i
 gone-step b (asks y) v x i = i
+gone-step b (configure y) v x i = i
 
 gone-line : (b : History) (l : Line) (x : ℕ) → Among x (b .gone) → Among x (historyLine b l .gone)
 unfolding historyLine

@@ -1,6 +1,7 @@
--- A call of any op: one clause says its status, its value, the words that it shows, the next state and the next lent words.
+-- Any call: one clause says its status, its value, the words that it shows, the next state and the next lent words.
 -- Assumes nothing.
 use Prim.Native.Nat.{ℕ}
+use mathlib.Core.Bool.{Bool, true, false}
 use mathlib.Core.List.{List, []}
 use lib.Dec.{eqb}
 use Rattle.layout.specs.Choice.{pick}
@@ -11,6 +12,7 @@ use Rattle.model.specs.Scopes.{makeChange, enterChange, exitChange}
 use Rattle.model.specs.Objects.{currentAt, allocateRest, allocateState, allocateMemory, allocateValue}
 use Rattle.model.specs.References.{storeAfter, wordAfter, storeRest, loadRest}
 use Rattle.model.specs.Data.{dataIndex, dataRest, viewRefusal, viewWords}
+use Rattle.model.specs.Configuration.{loadRightsChange}
 
 -- the calls that change nothing: ops 08 and 0a, the shown part and its status call
 pub data Question : Type 0 where
@@ -19,7 +21,11 @@ pub data Question : Type 0 where
   views : (t p : ℕ) → Question
   viewsStatus : (t p : ℕ) → Question
 
--- Ops 01 to 0a, the shown part and its status call. The thread comes first, then the fields that the op uses.
+-- the calls without an op that replace a table of the state: the load of a rights table
+pub data Configuration : Type 0 where
+  rightsTable : (text : List ℕ) → Configuration
+
+-- Ops 01 to 0a, the shown part and its status call, and the calls without an op. The thread comes first, then the fields that the op uses.
 pub data Call : Type 0 where
   start : (t p : ℕ) → Call
   end : (t : ℕ) → Call
@@ -30,6 +36,7 @@ pub data Call : Type 0 where
   store : (t p q r : ℕ) → Call
   write : (t p q r : ℕ) → Call
   asks : Question → Call
+  configure : Configuration → Call
 
 abbrev pub load : ℕ → ℕ → ℕ → Call
 load t p q = asks (loads t p q)
@@ -42,6 +49,22 @@ view t p = asks (views t p)
 
 abbrev pub viewStatus : ℕ → ℕ → Call
 viewStatus t p = asks (viewsStatus t p)
+
+abbrev pub loadRights : List ℕ → Call
+loadRights text = configure (rightsTable text)
+
+-- "New calls without an op, here and later, are lent no buffer of set-up and skip 1": whether a call is lent the buffers
+abbrev pub isSupplied : Call → Bool
+isSupplied (start t p) = true
+isSupplied (end t) = true
+isSupplied (make t q r) = true
+isSupplied (enter t q) = true
+isSupplied (exit t) = true
+isSupplied (allocate t q r) = true
+isSupplied (store t p q r) = true
+isSupplied (write t p q r) = true
+isSupplied (asks x) = true
+isSupplied (configure x) = false
 
 -- what a call answers
 pub record Reply : Type 0 where
@@ -58,9 +81,13 @@ pub record Effect : Type 0 where
   pub state : State
   pub memory : Memory
 
--- a call that touches no lent word
+-- a call that is lent no buffer: it skips 1, and what is kept stays
+abbrev pub unsupplied : State → Memory → Change → Effect
+unsupplied s m x = record { status = x .status; value = x .value; words = []; state = x .state; memory = m }
+
+-- a call that is lent the buffers, and touches no word of them
 abbrev pub changing : State → Memory → Change → Effect
-changing s m x = record { status = fitted s m (x .status); value = x .value; words = []; state = x .state; memory = m }
+changing s m x = unsupplied s m (record { status = fitted s m (x .status); value = x .value; state = x .state })
 
 -- a call that writes lent words and leaves the state: "The value is 0 where none is named"
 abbrev writing : State → ℕ → Memory → Effect
@@ -78,7 +105,11 @@ replyTo s m (viewsStatus t p) = record { status = viewRefusal s m t p; value = 0
 abbrev asking : State → Memory → Reply → Effect
 asking s m x = record { status = x .status; value = x .value; words = x .words; state = s; memory = m }
 
--- one clause for each call, and one for all questions
+-- what a call that replaces a table changes
+abbrev pub configuring : State → Configuration → Change
+configuring s (rightsTable text) = loadRightsChange s text
+
+-- one clause for each call, one for all questions, and one for all calls that replace a table
 abbrev pub effectOf : State → Memory → Call → Effect
 effectOf s m (start t p) = changing s m (startChange s t p)
 effectOf s m (end t) = changing s m (endChange s t)
@@ -95,6 +126,7 @@ effectOf s m (allocate t q r) = record {
 effectOf s m (store t p q r) = writing s (admit s m t (storeRest s m t p q r)) (storeAfter s m p q r)
 effectOf s m (write t p q r) = writing s (admit s m t (dataRest s m t p q)) (storeAfter s m p (dataIndex s m p q) r)
 effectOf s m (asks x) = asking s m (replyTo s m x)
+effectOf s m (configure x) = unsupplied s m (configuring s x)
 
 -- ---- its parts
 

@@ -42,9 +42,9 @@ pub record Change : Type 0 where
   pub value : ℕ
   pub state : State
 
--- "5: rights table has 0": the right of a kind in the class of area a
+-- "5: rights table has 0": the right of a kind in the class of area a, by the table in force
 abbrev pub kindMay : State → ℕ → Right → ℕ → Bool
-kindMay s kind right a = allows kind (classOf a) right
+kindMay s kind right a = allows (s .rights) kind (classOf a) right
 
 -- of thread t's kind
 unfoldable pub hasRight : State → ℕ → Right → ℕ → Bool

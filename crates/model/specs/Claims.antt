@@ -1,4 +1,5 @@
--- What is claimed after every list of calls: the third demand, and the values of loads, entries and exits. Each claim is a field of one record.
+-- What is claimed after every list of calls: the third demand, the values of loads, entries and exits, and the rights table in force. Each claim is a
+-- field of one record.
 -- Assumes nothing.
 use Prim.Native.Nat.{ℕ, suc, _+_, _≤_, _<_}
 use mathlib.Core.Bool.{Bool, true, false}
@@ -9,12 +10,13 @@ use lib.Dec.{eqb}
 use lib.ListN.{length}
 use Rattle.layout.specs.Choice.{pick}
 use Rattle.layout.specs.Handle.{null, offsetOf, areaOf}
+use Rattle.rights.specs.Rights.{Loadable}
 use Rattle.model.specs.State.{State, Memory, areaAt, threadAt, stackAt, current, isOpen, displayAt, displayHolds, storeOf, wordAt}
 use Rattle.model.specs.Checks.{isStarted, live}
-use Rattle.model.specs.Calls.{enter, exit, allocate, load}
+use Rattle.model.specs.Calls.{enter, exit, allocate, load, loadRights}
 use Rattle.model.specs.Run.{Element, Line, World, run}
 use Rattle.model.specs.History.{Object, History, threadRow, occurrences, total, historyOf}
-use Rattle.model.specs.Values.{lastStored, entryGeneration, entriesLeft}
+use Rattle.model.specs.Values.{lastStored, entryGeneration, entriesLeft, tableAfter}
 
 -- ---- the words of the claims
 
@@ -149,3 +151,10 @@ pub record Claims (w : World) (b : History) : Type 0 where
   -- An exit gives the number of entries of the scope taken off that are left on all rows, 0 for heap and immortal.
   pub exits : (l : Line) (before : List Line) → Follows l before (w .trace) → (t : ℕ) → l .call ≡ exit t
       → l .reply .status ≡ 0 → l .reply .value ≡ entriesLeft (historyOf before) t
+  -- 9. The rights table in force, by the lines: that of the newest accepted load, or the constant one.
+  pub rights : w .state .rights ≡ tableAfter (w .trace)
+  -- "Loading allows only 0 and 1, and A only with U."
+  pub loadable : Loadable (w .state .rights)
+  -- "24 when any thread is started": so no started thread's rights change
+  pub reloads : (l : Line) (before : List Line) → Follows l before (w .trace) → (text : List ℕ) → l .call ≡ loadRights text
+      → l .reply .status ≡ 0 → (t : ℕ) → historyOf before .started t ≡ false

@@ -7,7 +7,7 @@ use lib.Dec.{eqb}
 use lib.ListN.{getD, set, replicate}
 use Rattle.layout.specs.Choice.{pick}
 use Rattle.model.specs.State.{current, innermost, isScope}
-use Rattle.model.specs.Calls.{Call, start, end, make, enter, exit, allocate, store, write, asks}
+use Rattle.model.specs.Calls.{Call, start, end, make, enter, exit, allocate, store, write, asks, configure}
 use Rattle.model.specs.Run.{Line}
 
 -- an object made: its handle, its slots and its data words
@@ -99,6 +99,7 @@ historyStep b (allocate t q r) v = historyAllocate b t (record { handle = v; slo
 historyStep b (store t p q r) v = b
 historyStep b (write t p q r) v = b
 historyStep b (asks x) v = b
+historyStep b (configure x) v = b
 
 -- ".. and any refused call, change nothing."
 unfoldable pub historyLine : History → Line → History

@@ -7,6 +7,7 @@ use mathlib.Core.Logic.{_≢_}
 use lib.ListN.{length, getD}
 use Rattle.layout.specs.Choice.{pick}
 use Rattle.layout.specs.Stack.{down}
+use Rattle.rights.specs.Rights.{Loadable}
 use Rattle.model.specs.declared.Area.{Area}
 use Rattle.model.specs.State.{Thread, State, noThread, areaAt, entriesOf, innermost, isScope, displayAt}
 use Rattle.model.specs.Scopes.{lastGeneration}
@@ -112,7 +113,7 @@ stacksIn s = map entriesOf (s .threads)
 abbrev pub NestingIn : State → Type 0
 NestingIn s = Nesting (parentIn s) (displayAt s) (countIn s) (stacksIn s)
 
--- The areas, the rows and the threads of s are good, each by itself, and n is nested. Between the stores of a call n is the state before it.
+-- The areas, the rows, the threads and the rights table of s are good, each by itself, and n is nested. Between the stores of a call n is the state before it.
 pub record GoodWith (n s : State) : Type 0 where
   pub areas : length (s .areas) ≡ 64
   pub rows : Each (λ (r : List ℕ). length r ≡ 32) [] 64 (s .rows)
@@ -120,6 +121,7 @@ pub record GoodWith (n s : State) : Type 0 where
   pub standing : (a : ℕ) → a < 2 → StandingGood (areaAt s a)
   pub scopes : (a : ℕ) → 2 ≤ a → a < 64 → ScopeGood (areaAt s a)
   pub placed : Placed s
+  pub rights : Loadable (s .rights)
   pub nesting : NestingIn n
 
 -- the invariant: both of one state

@@ -7,6 +7,7 @@ pub mod Scopes
 pub mod Objects
 pub mod References
 pub mod Data
+pub mod Configuration
 pub mod Calls
 pub mod Ops
 pub mod Run

@@ -1,5 +1,5 @@
 -- Every list of calls: "Each call is given the state that set-up or the call before it left, and each call not refused by 1 is lent the
--- memory as set-up or the last such call before it left it."
+-- memory as set-up or the last such call before it left it." "New calls without an op, here and later, are lent no buffer of set-up".
 -- Assumes nothing.
 use Prim.Native.Nat.{ℕ}
 use mathlib.Core.List.{List, [], _∷_}
@@ -8,9 +8,9 @@ use Rattle.layout.specs.Choice.{pick}
 use Rattle.model.specs.State.{State, Memory}
 use Rattle.model.specs.SetUp.{lengthsOf, setUpStatus, firstState}
 use Rattle.model.specs.Checks.{fits}
-use Rattle.model.specs.Calls.{Call, Reply, Outcome, outcomeOf}
+use Rattle.model.specs.Calls.{Call, isSupplied, Reply, Outcome, outcomeOf}
 
--- what a call is lent: the memory as it was left, or another memory
+-- what the list has beside a call: it is lent the memory as it was left, or another memory
 pub data Supplied : Type 0 where
   kept : Supplied
   other : Memory → Supplied
@@ -31,15 +31,16 @@ pub record World : Type 0 where
   pub memory : Memory
   pub trace : List Line
 
--- another memory has other lengths than those of set-up; where it has not, the call is lent the kept memory
-abbrev pub suppliedTo : State → Memory → Supplied → Memory
-suppliedTo s m kept = m
-suppliedTo s m (other n) = pick (fits s n) m n
+-- Another memory has other lengths than those of set-up; where it has not, the call is lent the kept memory. A call without an op is lent nothing: what
+-- stands beside it in the list means nothing, and what is kept stays.
+abbrev pub suppliedTo : State → Memory → Call → Supplied → Memory
+suppliedTo s m c kept = m
+suppliedTo s m c (other n) = pick (isSupplied c) (pick (fits s n) m n) m
 
 -- one call: what is lent with other lengths is not kept
 unfoldable pub step : World → Element → World
 step w e =
-    let m : Memory = suppliedTo (w .state) (w .memory) (e .supplied) in
+    let m : Memory = suppliedTo (w .state) (w .memory) (e .call) (e .supplied) in
     let o : Outcome = outcomeOf (w .state) m (e .call) in
     record {
       state = o .state;

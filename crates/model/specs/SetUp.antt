@@ -6,6 +6,7 @@ use mathlib.Core.List.{_∷_}
 use lib.Dec.{eqb, ltb}
 use lib.ListN.{length, replicate}
 use Rattle.layout.specs.Choice.{pick, refuse}
+use Rattle.rights.specs.Rights.{builtIn}
 use Rattle.model.specs.declared.Area.{Area}
 use Rattle.model.specs.declared.Lengths.{Lengths}
 use Rattle.model.specs.State.{Thread, State, Memory, noArea}
@@ -30,7 +31,7 @@ standing start size = record { start = start; size = size; used = 0; generation 
 abbrev pub newThread : Thread
 newThread = record { kind = 0; len = 0; entries = replicate 32 0; inner = replicate 32 0 }
 
--- heap first, then immortal; no scope is made, no thread is started, no scratch word is taken
+-- heap first, then immortal; no scope is made, no thread is started, no scratch word is taken; "the constant table .. stays in force until a load"
 unfoldable pub firstState : ℕ → ℕ → Lengths → State
 firstState h i n = record {
   areas = standing 0 h ∷ standing h i ∷ replicate 62 noArea;
@@ -38,6 +39,7 @@ firstState h i n = record {
   threads = replicate 16 newThread;
   lengths = n;
   taken = 0;
+  rights = builtIn;
 }
 
 -- "A refused set-up gives the state of an accepted one with all lengths 0. Set-up writes no word."

@@ -19,13 +19,15 @@ pub record Thread : Type 0 where
   pub entries : List ℕ
   pub inner : List ℕ
 
--- The areas 0 to 63, the row of each one's display, the threads 0 to 15, the lengths of set-up, and how many scratch words are taken.
+-- The areas 0 to 63, the row of each one's display, the threads 0 to 15, the lengths of set-up, how many scratch words are taken, and the rights
+-- table in force: 36 text digits.
 pub record State : Type 0 where
   pub areas : List Area
   pub rows : List (List ℕ)
   pub threads : List Thread
   pub lengths : Lengths
   pub taken : ℕ
+  pub rights : List ℕ
 
 -- "Three buffers of 64-bit words: the permanent store of P words (heap first, then immortal), the scratch store of S words (scopes), and
 -- the start map."
@@ -97,16 +99,19 @@ withStack h len entries inner = record { kind = h .kind; len = len; entries = en
 -- ---- a state with a part replaced
 
 unfoldable pub withArea : State → ℕ → Area → State
-withArea s a x = record { areas = set (s .areas) a x; rows = s .rows; threads = s .threads; lengths = s .lengths; taken = s .taken }
+withArea s a x = record { areas = set (s .areas) a x; rows = s .rows; threads = s .threads; lengths = s .lengths; taken = s .taken; rights = s .rights }
 
 unfoldable pub withRow : State → ℕ → List ℕ → State
-withRow s a r = record { areas = s .areas; rows = set (s .rows) a r; threads = s .threads; lengths = s .lengths; taken = s .taken }
+withRow s a r = record { areas = s .areas; rows = set (s .rows) a r; threads = s .threads; lengths = s .lengths; taken = s .taken; rights = s .rights }
 
 unfoldable pub withThread : State → ℕ → Thread → State
-withThread s t h = record { areas = s .areas; rows = s .rows; threads = set (s .threads) t h; lengths = s .lengths; taken = s .taken }
+withThread s t h = record { areas = s .areas; rows = s .rows; threads = set (s .threads) t h; lengths = s .lengths; taken = s .taken; rights = s .rights }
 
 unfoldable pub withTaken : State → ℕ → State
-withTaken s n = record { areas = s .areas; rows = s .rows; threads = s .threads; lengths = s .lengths; taken = n }
+withTaken s n = record { areas = s .areas; rows = s .rows; threads = s .threads; lengths = s .lengths; taken = n; rights = s .rights }
+
+unfoldable pub withRights : State → List ℕ → State
+withRights s r = record { areas = s .areas; rows = s .rows; threads = s .threads; lengths = s .lengths; taken = s .taken; rights = r }
 
 -- ---- stacks
 

@@ -1,4 +1,5 @@
--- What the lines so far say of a value to come: the word that a load gives, the generation that an entry gives, the entries that an exit leaves.
+-- What the lines so far say of a value to come: the word that a load gives, the generation that an entry gives, the entries that an exit leaves; and of
+-- the rights table in force.
 -- Assumes nothing.
 use Prim.Native.Nat.{ℕ, suc}
 use mathlib.Core.Bool.{_&&_}
@@ -6,8 +7,9 @@ use mathlib.Core.List.{List, [], _∷_}
 use lib.Dec.{eqb}
 use Rattle.layout.specs.Choice.{pick}
 use Rattle.layout.specs.Handle.{null}
+use Rattle.rights.specs.Rights.{builtIn}
 use Rattle.model.specs.State.{current, isScope}
-use Rattle.model.specs.Calls.{Call, start, end, make, enter, exit, allocate, store, write, asks}
+use Rattle.model.specs.Calls.{Call, start, end, make, enter, exit, allocate, store, write, asks, Configuration, rightsTable, configure}
 use Rattle.model.specs.Run.{Line}
 use Rattle.model.specs.History.{History, threadRow, total, isScopeOnNone, historyExit, historyOf}
 
@@ -25,6 +27,7 @@ storedStep o i w (allocate t q r) v = pick (eqb v o) null w
 storedStep o i w (store t p q r) v = pick (eqb p o && eqb q i) r w
 storedStep o i w (write t p q r) v = w
 storedStep o i w (asks x) v = w
+storedStep o i w (configure x) v = w
 
 -- a refused call changes nothing
 unfoldable pub storedLine : ℕ → ℕ → ℕ → Line → ℕ
@@ -48,6 +51,7 @@ openingStep b a g (allocate t q r) v = g
 openingStep b a g (store t p q r) v = g
 openingStep b a g (write t p q r) v = g
 openingStep b a g (asks x) v = g
+openingStep b a g (configure x) v = g
 
 -- a refused call opens nothing
 unfoldable pub openingLine : History → ℕ → ℕ → Line → ℕ
@@ -68,3 +72,31 @@ entryGeneration q ls = pick (isScope q) (pick (eqb (total q (historyOf ls .rows)
 -- how many entries of the area that thread t leaves, if it is a scope, are left on all rows
 unfoldable pub entriesLeft : History → ℕ → ℕ
 entriesLeft b t = pick (isScope (current (threadRow b t))) (total (current (threadRow b t)) (historyExit b t .rows)) 0
+
+-- ---- the rights table
+
+-- table is in force, then a call that replaces a table is accepted
+abbrev pub configuredTable : List ℕ → Configuration → List ℕ
+configuredTable table (rightsTable text) = text
+
+-- .. or any call
+abbrev pub tableStep : List ℕ → Call → List ℕ
+tableStep table (start t p) = table
+tableStep table (end t) = table
+tableStep table (make t q r) = table
+tableStep table (enter t q) = table
+tableStep table (exit t) = table
+tableStep table (allocate t q r) = table
+tableStep table (store t p q r) = table
+tableStep table (write t p q r) = table
+tableStep table (asks x) = table
+tableStep table (configure x) = configuredTable table x
+
+-- "A refused load leaves the old table."
+unfoldable pub tableLine : List ℕ → Line → List ℕ
+tableLine table l = pick (eqb (l .reply .status) 0) (tableStep table (l .call)) table
+
+-- the table of the newest accepted load, or "the constant table, which stays in force until a load"
+unfoldable pub tableAfter : List Line → List ℕ
+tableAfter [] = builtIn
+tableAfter (l ∷ ls) = tableLine (tableAfter ls) l

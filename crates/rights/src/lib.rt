@@ -1,7 +1,8 @@
-// The constant table of rights: 36 entries, read by kind, class of area and right.
+// The rights table: 36 text digits, read by kind, class of area and right. Here are the constant table
+// and the place of a right in any table.
 ghost use mathlib.Core.Path.{_≡_};
-ghost use Prim.Native.Nat.{_<_};
-ghost use Rattle.rights.specs.Rights.{classOf, classIndex, rightIndex, allows};
+ghost use Prim.Native.Nat.{_<_, _≤_};
+ghost use Rattle.rights.specs.Rights.{classOf, classIndex, rightIndex, tableSize, placeOf, builtIn};
 
 // What a thread may do: enter an area, allocate in it, use an object of it, store or load a
 // reference to one.
@@ -12,12 +13,21 @@ pub enum Right {
     Refer,
 }
 
+pub type Table = [u8; 36];
+
 // A row for each kind: ordinary, real-time, no-heap. In a row the four rights in the heap, in immortal
 // memory and in a scope.
-const RIGHTS: [u8; 36] = *b"\
+const BUILT_IN: Table = *b"\
     111100110000\
     111111111111\
     000011111111";
+
+// The table that is in force until another is loaded.
+pub fn built_in() -> Table
+    ensures { λ r. ⌜ r ≡ builtIn ⌝ }
+{
+    BUILT_IN
+}
 
 // The place of an area's class in a row: heap, immortal, scope.
 fn class_index(area: u64) -> usize
@@ -43,18 +53,14 @@ fn right_index(right: Right) -> usize
     }
 }
 
-// Whether threads of a kind have a right in an area; a kind that is not 1, 2 or 3 has none.
-pub fn allowed_in(kind: u64, area: u64, right: Right) -> bool
-    ensures { λ r. ⌜ r ≡ allows kind (classOf area) right ⌝ }
+// The place in a table of a right that threads of a kind may have in an area.
+pub fn place(kind: u64, area: u64, right: Right) -> usize
+    requires { ⌜ (0 < kind) × (kind ≤ 3) ⌝ }
+    ensures place { λ n. ⌜ n ≡ placeOf kind (classOf area) right ⌝ }
+    ensures within { λ n. ⌜ n < tableSize ⌝ }
 {
-    if kind == 0 {
-        return false;
-    }
-    if 3 < kind {
-        return false;
-    }
     let row = (kind - 1) as usize;
     let column = class_index(area);
     let place = right_index(right);
-    RIGHTS[row * 12 + column * 4 + place] == b'1'
+    row * 12 + column * 4 + place
 }

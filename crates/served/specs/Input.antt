@@ -25,7 +25,7 @@ elementsOf (l ∷ ls) = elementsTo (parsedOf l) (elementsOf ls)
 unfoldable pub linesFrom : World → List Element → List calls.Line
 linesFrom w [] = []
 linesFrom w (e ∷ es) =
-    record { call = e .call; reply = outcomeOf (w .state) (suppliedTo (w .state) (w .memory) (e .supplied)) (e .call) .reply } ∷ linesFrom (step w e) es
+    record { call = e .call; reply = outcomeOf (w .state) (suppliedTo (w .state) (w .memory) (e .call) (e .supplied)) (e .call) .reply } ∷ linesFrom (step w e) es
 
 -- a trace with lines more, the oldest of them first
 unfoldable pub onto : List calls.Line → List calls.Line → List calls.Line

@@ -1,6 +1,6 @@
--- The words that set-up makes hold the first state; and one law for each way that its checks end.
+-- The words and the bytes that set-up makes hold the first state; and one law for each way that its checks end.
 -- Assumes nothing.
-use mathlib.Core.Path.{_≡_, ap, sym, _∙_}
+use mathlib.Core.Path.{_≡_, refl, ap, sym, _∙_}
 use mathlib.Core.Bool.{not}
 use mathlib.Core.List.{List}
 use Prim.Native.Nat.{ℕ, _+_, _/_, _<_, _≤_}
@@ -9,11 +9,13 @@ use lib.Dec.{eqb}
 use borrow.Author.Tests.{eq-eqb, ne-eqb, lt-ltb, le-ltb}
 use lib.ListN.{replicate}
 use Rattle.layout.specs.Choice.{hit, skip, pick-true, pick-false}
+use Rattle.rights.specs.Rights.{builtIn}
+use Rattle.rights.specs.Loading.{built-in-loadable}
 use Rattle.model.specs.declared.Lengths.{Lengths}
-use Rattle.model.specs.State.{State, withArea}
+use Rattle.model.specs.State.{State, withArea, withRights}
 use Rattle.model.specs.SetUp.{setUpStatus, firstState, setUpState, standing}
-use Rattle.tables.specs.Decode.{wordCount, byteCount, putArea, putLengths, Holds}
-use Rattle.tables.specs.Laws.{state-area, withLengths, state-lengths}
+use Rattle.tables.specs.Decode.{wordCount, byteCount, putArea, putLengths, putRights, Holds}
+use Rattle.tables.specs.Laws.{state-area, withLengths, state-lengths, state-rights}
 use Rattle.tables.specs.Contract.{Ready}
 use Rattle.tables.specs.Blank.{blank-holds}
 
@@ -21,8 +23,12 @@ use Rattle.tables.specs.Blank.{blank-holds}
 abbrev pub firstWords : ℕ → ℕ → Lengths → List ℕ
 firstWords h i n = putLengths (putArea (putArea (replicate wordCount 0) 0 (standing 0 h)) 1 (standing h i)) n
 
-first-holds : (h i : ℕ) (n : Lengths) → Holds (firstWords h i n) (replicate byteCount 0) (firstState h i n)
-unfolding withArea firstState
+-- the constant table of rights is written
+abbrev pub firstBytes : List ℕ
+firstBytes = putRights (replicate byteCount 0) builtIn
+
+first-holds : (h i : ℕ) (n : Lengths) → Holds (firstWords h i n) firstBytes (firstState h i n)
+unfolding withArea withRights firstState
 first-holds h i n =
     let b : List ℕ = replicate byteCount 0 in
     let w0 : List ℕ = replicate wordCount 0 in
@@ -31,10 +37,11 @@ first-holds h i n =
     let h1 = state-area w0 b 0 (standing 0 h) (omega arith) (blank-holds .sized) in
     let h2 = state-area w1 b 1 (standing h i) (omega arith) (h1 .sized) in
     let h3 = state-lengths w2 b n (h2 .sized) in
+    let h4 = state-rights (firstWords h i n) b builtIn (built-in-loadable .size) (h3 .sized) in
     record {
-      sized = h3 .sized;
-      state = h3 .state ∙ ap (λ (s : State). withLengths s n)
-          (h2 .state ∙ ap (λ (s : State). withArea s 1 (standing h i)) (h1 .state ∙ ap (λ (s : State). withArea s 0 (standing 0 h)) (blank-holds .state)));
+      sized = h4 .sized;
+      state = h4 .state ∙ ap (λ (s : State). withRights s builtIn) (h3 .state ∙ ap (λ (s : State). withLengths s n)
+          (h2 .state ∙ ap (λ (s : State). withArea s 1 (standing h i)) (h1 .state ∙ ap (λ (s : State). withArea s 0 (standing 0 h)) (blank-holds .state))));
     }
 
 module _ (h i : ℕ) (n : Lengths) where
@@ -62,14 +69,14 @@ module _ (h i : ℕ) (n : Lengths) where
         prepared e = sym (skip _ _ _ (ap not (eq-eqb (h + i) (n .permanent) w)) ∙ skip _ _ _ (le-ltb 16384 (n .permanent) a) ∙ skip _ _ _ (le-ltb 16384 (n .scratch) b) ∙ skip _ _ _ (ap not (eq-eqb (n .map) _ e)))
 
   -- what set-up gives, by its status
-  pub accepted-holds : setUpStatus h i n ≡ 0 → Holds (firstWords h i n) (replicate byteCount 0) (setUpState h i n)
+  pub accepted-holds : setUpStatus h i n ≡ 0 → Holds (firstWords h i n) firstBytes (setUpState h i n)
   unfolding setUpState
   accepted-holds e =
       let k = first-holds h i n in
       record { sized = k .sized; state = k .state ∙ sym (pick-true (eqb (setUpStatus h i n) 0) _ _ (eq-eqb (setUpStatus h i n) 0 e)) }
 
   pub refused-holds : (setUpStatus h i n ≡ 0 → ⊥)
-      → Holds (firstWords 0 0 (record { permanent = 0; scratch = 0; map = 0 })) (replicate byteCount 0) (setUpState h i n)
+      → Holds (firstWords 0 0 (record { permanent = 0; scratch = 0; map = 0 })) firstBytes (setUpState h i n)
   unfolding setUpState
   refused-holds e =
       let k = first-holds 0 0 (record { permanent = 0; scratch = 0; map = 0 }) in

@@ -7,11 +7,10 @@ use tables::Bytes;
 use tables::WORDS;
 use tables::Words;
 ghost use mathlib.Core.Path.{_≡_};
-ghost use lib.ListN.{replicate};
 ghost use Rattle.model.specs.SetUp.{setUpStatus, setUpState, standing, lengthsOf};
-ghost use Rattle.tables.specs.Decode.{byteCount, Holds};
+ghost use Rattle.tables.specs.Decode.{Holds};
 ghost use Rattle.tables.specs.Contract.{memoryOf};
-ghost use Rattle.setup.specs.First.{firstWords, Begun};
+ghost use Rattle.setup.specs.First.{firstWords, firstBytes, Begun};
 
 // The status, and the two tables that hold the state.
 #[repr(C)]
@@ -73,7 +72,7 @@ fn first_words(h: u64, i: u64, n: Lengths) -> Words
 // The words of what set-up gives: of an accepted one, or of one with all lengths 0.
 fn set_up_words(status: u64, h: u64, i: u64, n: Lengths) -> Words
     requires { ⌜ status ≡ setUpStatus h i n ⌝ }
-    ensures { λ r. ⌜ Holds r (replicate byteCount 0) (setUpState h i n) ⌝ }
+    ensures { λ r. ⌜ Holds r firstBytes (setUpState h i n) ⌝ }
 {
     if status == 0 {
         return first_words(h, i, n);
@@ -89,6 +88,16 @@ fn set_up_words(status: u64, h: u64, i: u64, n: Lengths) -> Words
     )
 }
 
+// The bytes: no entry, no display, and the constant table of rights.
+fn first_bytes() -> Bytes
+    ensures { λ r. ⌜ r ≡ firstBytes ⌝ }
+{
+    let mut bytes = [0u8; BYTES];
+    let table = rights::built_in();
+    tables::put_rights(&mut bytes, &table);
+    bytes
+}
+
 pub fn set_up(permanent: &[u64], scratch: &[u64], map: &[u64], h: u64, i: u64) -> SetUp
     ensures { λ r. ⌜ Begun (r .status) (r .words) (r .bytes) h i (lengthsOf (memoryOf (now (permanent .entry)) (now (scratch .entry)) (now (map .entry)))) ⌝ }
 {
@@ -99,9 +108,10 @@ pub fn set_up(permanent: &[u64], scratch: &[u64], map: &[u64], h: u64, i: u64) -
     };
     let status = check_set_up(h, i, n);
     let words = set_up_words(status, h, i, n);
+    let bytes = first_bytes();
     SetUp {
         status,
         words,
-        bytes: [0u8; BYTES],
+        bytes,
     }
 }

@@ -1,7 +1,7 @@
 -- How a call meets its contract, one law for each way that it ends; and what the contract says: a step of run.
 -- Assumes nothing.
 use Prim.Native.Nat.{ℕ}
-use mathlib.Core.Bool.{true, false}
+use mathlib.Core.Bool.{Bool, true, false}
 use mathlib.Core.List.{List, [], _∷_}
 use mathlib.Core.Logic.{_≢_}
 use mathlib.Core.Path.{_≡_, refl, sym, ap, _∙_}
@@ -11,11 +11,11 @@ use borrow.Author.Tests.{eq-eqb, ne-eqb, eqb-true}
 use Rattle.layout.specs.Choice.{pick, cases, pick-false}
 use Rattle.model.specs.State.{State, Memory}
 use Rattle.model.specs.Checks.{fits, fitted, Change}
-use Rattle.model.specs.Calls.{Call, Effect, changing, effectOf, callStatus, callValue, callWords, callState, callMemory, Reply, settled, outcomeOf}
+use Rattle.model.specs.Calls.{Call, Configuration, configure, configuring, isSupplied, Effect, changing, effectOf, callStatus, callValue, callWords, callState, callMemory, Reply, settled, outcomeOf}
 use Rattle.model.specs.Run.{kept, other, Element, Line, World, suppliedTo, step}
 use Rattle.model.specs.Invariant.{Good}
 use Rattle.model.proofs.Keeps.{good-call}
-use Rattle.model.proofs.Outcomes.{unfit-memory, unfit-fitted, fit-fitted}
+use Rattle.model.proofs.Outcomes.{unfit-memory, unfit-fitted, fit-fitted, unsupplied-apart}
 use Rattle.tables.specs.Decode.{stateOf, Holds}
 use Rattle.tables.specs.Contract.{Ready, plain, Answered, Changed}
 
@@ -95,6 +95,26 @@ module _ (w b : List ℕ) (m : Memory) (c : Call) (x : Change) (q : effectOf (st
         ready = d .ready;
       })
 
+-- a call that is lent no buffer: whatever is kept, it does what its change says
+pub unsupplied-answered : (w b : List ℕ) (x : Configuration) {n v : ℕ} {w′ b′ : List ℕ} → Changed w b (configuring (stateOf w b) x) n v w′ b′
+    → (m : Memory) → Answered w b m (configure x) (plain n v) w′ b′ m
+unfolding outcomeOf
+unsupplied-answered w b x {n} d m =
+    let k : Change = configuring (stateOf w b) x in
+    cases (eqb (k .status) 0)
+    (λ e. record {
+      reply-is = rw (d .status-is, d .value-is, e) (rw (eqb-true (k .status) 0 e) refl);
+      state-is = rw e (d .state-is ∙ rw e refl);
+      memory-is = rw e refl;
+      ready = d .ready;
+    })
+    (λ e. record {
+      reply-is = rw (d .status-is, d .value-is, e) refl;
+      state-is = rw e (d .state-is ∙ rw e refl);
+      memory-is = rw e refl;
+      ready = d .ready;
+    })
+
 -- ---- a call by its contract is a step
 
 -- tables, buffers and lines as a world
@@ -102,7 +122,7 @@ abbrev pub worldOf : List ℕ → List ℕ → Memory → List Line → World
 worldOf w b m ls = record { state = stateOf w b; memory = m; trace = ls }
 
 -- a step of a call that is lent n
-supplied-step : (w : World) (e : Element) (n : Memory) → suppliedTo (w .state) (w .memory) (e .supplied) ≡ n
+supplied-step : (w : World) (e : Element) (n : Memory) → suppliedTo (w .state) (w .memory) (e .call) (e .supplied) ≡ n
     → step w e ≡ record {
       state = outcomeOf (w .state) n (e .call) .state;
       memory = pick (fits (w .state) n) (outcomeOf (w .state) n (e .call) .memory) (w .memory);
@@ -110,6 +130,11 @@ supplied-step : (w : World) (e : Element) (n : Memory) → suppliedTo (w .state)
     }
 unfolding step
 supplied-step w e n q = rw q refl
+
+-- either choice is the same
+pick-same : {A : Type 0} (t : Bool) (x : A) → pick t x x ≡ x
+pick-same true x = refl
+pick-same false x = refl
 
 -- a call that is lent the kept memory leaves its own, fitting or not
 left-memory : (s : State) (m : Memory) (c : Call) → pick (fits s m) (outcomeOf s m c .memory) m ≡ outcomeOf s m c .memory
@@ -123,9 +148,14 @@ module _ (w b w′ b′ : List ℕ) (ls : List Line) (c : Call) (r : Reply) wher
       supplied-step (worldOf w b m ls) (record { call = c; supplied = kept }) m refl
       ∙ rw (a .reply-is, a .state-is, a .memory-is, left-memory (stateOf w b) m c) refl
 
-  -- lent a memory of other lengths, which is not kept
+  -- lent a memory of other lengths, which is not kept; or lent none
   pub step-other : (m n n′ : Memory) → fits (stateOf w b) n ≡ false → Answered w b n c r w′ b′ n′
       → step (worldOf w b m ls) (record { call = c; supplied = other n }) ≡ worldOf w′ b′ m (record { call = c; reply = r } ∷ ls)
-  step-other m n n′ f a =
-      supplied-step (worldOf w b m ls) (record { call = c; supplied = other n }) n (pick-false (fits (stateOf w b) n) m n f)
-      ∙ rw (a .reply-is, a .state-is, f) refl
+  step-other m n n′ f a = cases (isSupplied c)
+      (λ e.
+      supplied-step (worldOf w b m ls) (record { call = c; supplied = other n }) n (rw e (pick-false (fits (stateOf w b) n) m n f))
+      ∙ rw (a .reply-is, a .state-is, f) refl)
+      (λ e.
+      let k = unsupplied-apart (stateOf w b) m n c e in
+      supplied-step (worldOf w b m ls) (record { call = c; supplied = other n }) m (rw e refl)
+      ∙ rw (k .reply, k .state, k .memory, a .reply-is, a .state-is) (rw (pick-same (fits (stateOf w b) m) m)))

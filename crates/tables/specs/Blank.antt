@@ -5,10 +5,11 @@ use Prim.Native.Nat.{ℕ, zero, suc, _+_, _<_}
 use native.Mathlib.Omega.{arith}
 use lib.ListN.{getD, replicate, length-replicate, getD-replicate}
 use lib.Seq.{ext-getD}
+use Rattle.rights.specs.Rights.{tableSize}
 use Rattle.model.specs.State.{State, noArea}
 use Rattle.model.specs.SetUp.{newThread}
 use Rattle.tables.specs.Cut.{cut, each, each-length, each-at}
-use Rattle.tables.specs.Decode.{areaCount, threadCount, areaIndex, threadIndex, lengthsAt, takenAt, wordCount, rowBytes, rowIndex, innerRows, displayRows, byteCount, areaRecord, byteRow, threadOf, displayRow, stateOf, Shaped, Holds}
+use Rattle.tables.specs.Decode.{areaCount, threadCount, areaIndex, threadIndex, lengthsAt, takenAt, wordCount, rowBytes, rowIndex, innerRows, displayRows, rightsAt, byteCount, areaRecord, byteRow, threadOf, displayRow, rightsOf, stateOf, Shaped, Holds}
 
 each-const : {A : Type 0} (f : ℕ → A) (n : ℕ) (x : A) → ((j : ℕ) → f j ≡ x) → each f n ≡ replicate n x
 each-const f n x h =
@@ -24,7 +25,11 @@ zero-row : (n : ℕ) → byteRow (replicate byteCount 0) n ≡ replicate rowByte
 unfolding byteRow cut
 zero-row n = each-const (λ (j : ℕ). getD (replicate byteCount 0) (rowIndex n + j) 0) rowBytes 0 (λ j. zeros byteCount (rowIndex n + j))
 
--- no area has words, no thread is started, every length is 0
+zero-rights : rightsOf (replicate byteCount 0) ≡ replicate tableSize 0
+unfolding rightsOf cut
+zero-rights = each-const (λ (j : ℕ). getD (replicate byteCount 0) (rightsAt + j) 0) tableSize 0 (λ j. zeros byteCount (rightsAt + j))
+
+-- no area has words, no thread is started, every length is 0, and no table of rights is there
 abbrev pub blankState : State
 blankState = record {
   areas = replicate areaCount noArea;
@@ -32,6 +37,7 @@ blankState = record {
   threads = replicate threadCount newThread;
   lengths = record { permanent = 0; scratch = 0; map = 0 };
   taken = 0;
+  rights = replicate tableSize 0;
 }
 
 pub blank-holds : Holds (replicate wordCount 0) (replicate byteCount 0) blankState
@@ -53,5 +59,6 @@ blank-holds =
         threads = threads i;
         lengths = record { permanent = zeros wordCount lengthsAt i; scratch = zeros wordCount (lengthsAt + 1) i; map = zeros wordCount (lengthsAt + 2) i };
         taken = zeros wordCount takenAt i;
+        rights = zero-rights i;
       };
     }

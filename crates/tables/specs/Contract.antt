@@ -88,6 +88,11 @@ Replies r words bytes permanent scratch map c =
 abbrev pub Answers : Answer → Borrowed → Borrowed → Borrowed → Borrowed → Borrowed → Call → Type 0
 Answers r words bytes permanent scratch map c = Replies (plain (r .status) (r .value)) words bytes permanent scratch map c
 
+-- the same of a call that is lent no buffer: whatever memory is kept, it stays
+abbrev pub AnswersAlone : Answer → Borrowed → Borrowed → Call → Type 0
+AnswersAlone r words bytes c =
+    (m : Memory) → Answered (now (words .entry)) (now (bytes .entry)) m c (plain (r .status) (r .value)) (now (words .exit)) (now (bytes .exit)) m
+
 -- What a call that touches no lent word does to the tables w, b after refusal 1: a refusal yields 0 and leaves the state.
 pub record Changed (w b : List ℕ) (x : Change) (status value : ℕ) (w′ b′ : List ℕ) : Type 0 where
   pub status-is : status ≡ x .status

@@ -4,6 +4,7 @@ use mathlib.Core.List.{List}
 use Prim.Native.Nat.{ℕ, _+_, _*_, _<_}
 use mathlib.Core.Path.{_≡_}
 use lib.ListN.{length, getD, set}
+use Rattle.rights.specs.Rights.{tableSize}
 use Rattle.model.specs.declared.Area.{Area}
 use Rattle.model.specs.declared.Lengths.{Lengths}
 use Rattle.model.specs.State.{Thread, State}
@@ -47,7 +48,7 @@ takenAt = lengthsAt + 3
 abbrev pub wordCount : ℕ
 wordCount = takenAt + 1
 
--- ---- where the bytes lie, in rows of 32: the entries of the threads, the innermost scopes as of them, the displays of the areas
+-- ---- where the bytes lie: rows of 32, which are the entries of the threads, the innermost scopes as of them and the displays of the areas; then the rights
 
 abbrev pub rowBytes : ℕ
 rowBytes = 32
@@ -64,8 +65,11 @@ displayRows = innerRows + threadCount
 abbrev pub rowCount : ℕ
 rowCount = displayRows + areaCount
 
+abbrev pub rightsAt : ℕ
+rightsAt = rowCount * rowBytes
+
 abbrev pub byteCount : ℕ
-byteCount = rowCount * rowBytes
+byteCount = rightsAt + tableSize
 
 -- ---- areas
 
@@ -143,6 +147,17 @@ displayRow b a = byteRow b (displayRows + a)
 unfoldable pub putRow : List ℕ → ℕ → List ℕ → List ℕ
 putRow b a r = putByteRow b (displayRows + a) r
 
+-- ---- the rights table in force: a byte for each digit
+
+unfoldable pub rightsOf : List ℕ → List ℕ
+rightsOf b = cut b rightsAt tableSize
+
+abbrev pub rightOf : List ℕ → ℕ → ℕ
+rightOf b i = getD b (rightsAt + i) 0
+
+unfoldable pub putRights : List ℕ → List ℕ → List ℕ
+putRights b r = put b rightsAt r
+
 -- ---- the state
 
 unfoldable pub stateOf : List ℕ → List ℕ → State
@@ -152,6 +167,7 @@ stateOf w b = record {
   threads = each (threadOf w b) threadCount;
   lengths = lengthsRecord w;
   taken = takenOf w;
+  rights = rightsOf b;
 }
 
 -- the two tables are as long as they are declared, and the spare words are 0: so the state that they hold says the rest of them

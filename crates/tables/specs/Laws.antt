@@ -11,14 +11,15 @@ use lib.Dec.{ltb}
 use borrow.Author.Tests.{ltb-true, ltb-false}
 use lib.ListN.{length, getD, set, length-set}
 use lib.Seq.{ext-getD, getD-set-same, getD-set-other}
+use Rattle.rights.specs.Rights.{tableSize}
 use Rattle.model.specs.declared.Area.{Area}
 use Rattle.model.specs.declared.Lengths.{Lengths}
-use Rattle.model.specs.State.{State, Thread, noArea, noThread, areaAt, rowAt, threadAt, withArea, withRow, withThread, withTaken}
+use Rattle.model.specs.State.{State, Thread, noArea, noThread, areaAt, rowAt, threadAt, withArea, withRow, withThread, withTaken, withRights}
 use Rattle.tables.specs.declared.thread.ThreadWords.{ThreadWords}
 use Rattle.tables.specs.declared.thread.Entry.{Entry}
 use Rattle.tables.specs.Cut.{cut, put, each, from, getD-cut, length-cut, length-put, cut-put, cut-put-other, getD-put-other, cut-set, cut-set-other, each-at, each-set, each-same}
-use Rattle.tables.specs.Decode.{areaCount, threadCount, areaWords, areaIndex, threadsAt, threadWords, threadIndex, lengthsAt, takenAt, wordCount, rowBytes, rowIndex, innerRows, displayRows, rowCount, byteCount}
-use Rattle.tables.specs.Decode.{areaRecord, spareOf, putArea, lengthsRecord, putLengths, takenOf, putTaken, byteRow, putByteRow, byteOf, putByte, threadRecord, putThread, entryRecord, putEntry, threadOf, displayRow, putRow, stateOf, Shaped, Holds}
+use Rattle.tables.specs.Decode.{areaCount, threadCount, areaWords, areaIndex, threadsAt, threadWords, threadIndex, lengthsAt, takenAt, wordCount, rowBytes, rowIndex, innerRows, displayRows, rowCount, rightsAt, byteCount}
+use Rattle.tables.specs.Decode.{areaRecord, spareOf, putArea, lengthsRecord, putLengths, takenOf, putTaken, byteRow, putByteRow, byteOf, putByte, threadRecord, putThread, entryRecord, putEntry, threadOf, displayRow, putRow, rightsOf, rightOf, putRights, stateOf, Shaped, Holds}
 
 -- ---- the records of a table's state
 
@@ -68,6 +69,10 @@ module _ (w b : List ℕ) where
   unfolding stateOf
   taken-read = refl
 
+  pub right-read : (i : ℕ) → i < tableSize → getD (stateOf w b .rights) i 0 ≡ rightOf b i
+  unfolding stateOf rightsOf
+  right-read i h = getD-cut b rightsAt tableSize i h
+
 -- ---- two numbers
 
 order : (a b : ℕ) → (b < a) ⊎ (a ≤ b)
@@ -80,29 +85,32 @@ order a b = by (ltb b a) refl
 sides : (a b : ℕ) → b ≢ a → (b < a) ⊎ (a < b)
 sides a b ne = ⊎-elim (λ h. inl h) (λ h. inr (let z : b ≡ a → ⊥ = ne in omega arith)) (order a b)
 
--- ---- a row of the bytes is written: it is r, and every other is kept
+-- ---- a row of the bytes is written: it is r, and every other is kept, and the rights
 
 record RowWritten (b b′ : List ℕ) (n : ℕ) (r : List ℕ) : Type 0 where
   here : byteRow b′ n ≡ r
   others : (m : ℕ) → m ≢ n → byteRow b′ m ≡ byteRow b m
+  rights : rightsOf b′ ≡ rightsOf b
   long : length b′ ≡ byteCount
 
 module _ (b : List ℕ) (e : length b ≡ byteCount) (n : ℕ) (l : n < rowCount) where
   -- a whole row
   row-written : (r : List ℕ) → length r ≡ rowBytes → RowWritten b (putByteRow b n r) n r
-  unfolding byteRow putByteRow
+  unfolding byteRow putByteRow rightsOf
   row-written r k = record {
     here = cut-put b (rowIndex n) r rowBytes k (omega arith);
     others = λ m ne. cut-put-other b (rowIndex n) r (rowIndex m) rowBytes (⊎-elim (λ y. inl (omega arith)) (λ y. inr (omega arith)) (sides n m ne));
+    rights = cut-put-other b (rowIndex n) r rightsAt tableSize (inr (omega arith));
     long = length-put b (rowIndex n) r ∙ e;
   }
 
   -- one byte
   byte-written : (k v : ℕ) → k < rowBytes → RowWritten b (putByte b n k v) n (set (byteRow b n) k v)
-  unfolding byteRow
+  unfolding byteRow rightsOf
   byte-written k v h = record {
     here = cut-set b (rowIndex n) rowBytes k v h (omega arith);
     others = λ m ne. cut-set-other b (rowIndex n + k) v (rowIndex m) rowBytes (⊎-elim (λ y. inr (omega arith)) (λ y. inl (omega arith)) (sides n m ne));
+    rights = cut-set-other b (rowIndex n + k) v rightsAt tableSize (inl (omega arith));
     long = length-set b (rowIndex n + k) v ∙ e;
   }
 
@@ -133,7 +141,7 @@ area-put w a x =
 
 -- the state with other lengths
 abbrev pub withLengths : State → Lengths → State
-withLengths s n = record { areas = s .areas; rows = s .rows; threads = s .threads; lengths = n; taken = s .taken }
+withLengths s n = record { areas = s .areas; rows = s .rows; threads = s .threads; lengths = n; taken = s .taken; rights = s .rights }
 
 -- ---- words that are kept
 
@@ -196,7 +204,7 @@ module _ (w b : List ℕ) where
       let threads : each (threadOf w (putRow b a r)) threadCount ≡ each (threadOf w b) threadCount
       = each-same (threadOf w b) (threadOf w (putRow b a r)) threadCount noThread
       (λ j l. rw (p .others j (λ e. omega arith), p .others (innerRows + j) (λ e. omega arith)) refl) in
-      record { sized = record { words = z .words; bytes = p .long; spare = z .spare }; state = rw (rows, threads) refl }
+      record { sized = record { words = z .words; bytes = p .long; spare = z .spare }; state = rw (rows, threads, p .rights) refl }
 
   -- ---- a thread is written: its words, its entries
 
@@ -204,6 +212,7 @@ module _ (w b : List ℕ) where
     here : threadOf w′ b′ t ≡ h
     words : (j : ℕ) → j ≢ threadIndex t → j ≢ threadIndex t + 1 → getD w′ j 0 ≡ getD w j 0
     rows : (n : ℕ) → n ≢ t → n ≢ innerRows + t → byteRow b′ n ≡ byteRow b n
+    rights : rightsOf b′ ≡ rightsOf b
     long : length w′ ≡ wordCount
     wide : length b′ ≡ byteCount
 
@@ -224,7 +233,7 @@ module _ (w b : List ℕ) where
       ) refl) in
       record {
         sized = record { words = z .long; bytes = z .wide; spare = spare-kept w w′ low (s .spare) };
-        state = rw (areas-kept w w′ low, rows, threads, high lengthsAt (omega arith), high (lengthsAt + 1) (omega arith), high (lengthsAt + 2) (omega arith), high takenAt (omega arith)) refl;
+        state = rw (areas-kept w w′ low, rows, threads, high lengthsAt (omega arith), high (lengthsAt + 1) (omega arith), high (lengthsAt + 2) (omega arith), high takenAt (omega arith), z .rights) refl;
       }
 
   -- its words are read back, and every other is kept
@@ -258,6 +267,7 @@ module _ (w b : List ℕ) where
         here = rw (kind-written t x lt (z .words), len-written t x lt (z .words)) refl;
         words = words-kept t x lt (z .words);
         rows = λ m e f. refl;
+        rights = refl;
         long = simp length-set (z .words);
         wide = z .bytes;
       }))
@@ -288,6 +298,7 @@ module _ (w b : List ℕ) where
         ) refl;
         words = words-kept t x lt (z .words);
         rows = λ m e f. q .others m f ∙ p .others m e;
+        rights = q .rights ∙ p .rights;
         long = simp length-set (z .words);
         wide = q .long;
       }))
@@ -295,7 +306,7 @@ module _ (w b : List ℕ) where
   -- ---- the lengths and the number of scratch words taken are written
 
   tail-laid : (w′ : List ℕ) (n : Lengths) (k : ℕ) → Shaped w b → length w′ ≡ wordCount → ((j : ℕ) → j < lengthsAt → getD w′ j 0 ≡ getD w j 0)
-      → lengthsRecord w′ ≡ n → takenOf w′ ≡ k → Holds w′ b (record { areas = stateOf w b .areas; rows = stateOf w b .rows; threads = stateOf w b .threads; lengths = n; taken = k })
+      → lengthsRecord w′ ≡ n → takenOf w′ ≡ k → Holds w′ b (record { areas = stateOf w b .areas; rows = stateOf w b .rows; threads = stateOf w b .threads; lengths = n; taken = k; rights = stateOf w b .rights })
   unfolding stateOf
   tail-laid w′ n k z e low p q =
       let below : (j : ℕ) → j < threadsAt → getD w′ j 0 ≡ getD w j 0 = λ j h. low j (omega arith) in
@@ -307,6 +318,7 @@ module _ (w b : List ℕ) where
           threads = threads-kept w w′ (λ j l h. low j h) b i;
           lengths = p i;
           taken = q i;
+          rights = rightsOf b;
         };
       }
 
@@ -335,6 +347,22 @@ module _ (w b : List ℕ) where
       let d : getD (putLengths w n) (lengthsAt + 2) 0 ≡ n .map = getD-set-same v (lengthsAt + 2) (n .map) 0 (omega arith) in
       tail-laid (putLengths w n) n (takenOf w) z (simp length-set zw) (λ j h. off j (λ e. omega arith) (λ e. omega arith) (λ e. omega arith))
       (rw (a, c, d) refl) (off takenAt (λ e. omega arith) (λ e. omega arith) (λ e. omega arith))
+
+  -- ---- the rights table is written
+
+  pub state-rights : (r : List ℕ) → length r ≡ tableSize → Shaped w b → Holds w (putRights b r) (withRights (stateOf w b) r)
+  unfolding stateOf withRights putRights rightsOf displayRow threadOf byteRow
+  state-rights r k z =
+      let row : (n : ℕ) → n < rowCount → byteRow (putRights b r) n ≡ byteRow b n
+      = λ n l. cut-put-other b rightsAt r (rowIndex n) rowBytes (inl (omega arith)) in
+      let rows : each (displayRow (putRights b r)) areaCount ≡ each (displayRow b) areaCount
+      = each-same (displayRow b) (displayRow (putRights b r)) areaCount [] (λ j l. row (displayRows + j) (omega arith)) in
+      let threads : each (threadOf w (putRights b r)) threadCount ≡ each (threadOf w b) threadCount
+      = each-same (threadOf w b) (threadOf w (putRights b r)) threadCount noThread (λ j l. rw (row j (omega arith), row (innerRows + j) (omega arith)) refl) in
+      record {
+        sized = record { words = z .words; bytes = length-put b rightsAt r ∙ z .bytes; spare = z .spare };
+        state = rw (rows, threads, cut-put b rightsAt r tableSize k (omega (arith, z .bytes))) refl;
+      }
 
 -- ---- every word of the tables is read or spare, and every byte is read: the tables are told by their state
 
@@ -394,12 +422,18 @@ module _ {w b w′ b′ : List ℕ} (z : Shaped w b) (z′ : Shaped w′ b′) (
       display : (a : ℕ) → a < areaCount → n ≡ displayRows + a → byteRow b n ≡ byteRow b′ n
       display a h q = rw q (sym (row-read w b a h) ∙ ap (λ (s : State). rowAt s a) e ∙ row-read w′ b′ a h)
 
-  byte-same : (j : ℕ) → j < byteCount → getD b j 0 ≡ getD b′ j 0
-  byte-same j l =
+  right-same : (j i : ℕ) → i < tableSize → j ≡ rightsAt + i → getD b j 0 ≡ getD b′ j 0
+  right-same j i h q = rw q (sym (right-read w b i h) ∙ ap (λ (s : State). getD (s .rights) i 0) e ∙ right-read w′ b′ i h)
+
+  row-byte-same : (j : ℕ) → j < rightsAt → getD b j 0 ≡ getD b′ j 0
+  row-byte-same j l =
       let q : rowIndex (j / rowBytes) + j % rowBytes ≡ j = omega arith in
       let at : (c : List ℕ) → getD c j 0 ≡ getD (byteRow c (j / rowBytes)) (j % rowBytes) 0
       = λ c. ap (λ (i : ℕ). getD c i 0) (sym q) ∙ sym (byte-read c (j / rowBytes) (j % rowBytes) (omega arith)) in
       at b ∙ ap (λ (r : List ℕ). getD r (j % rowBytes) 0) (row-same (j / rowBytes) (omega arith)) ∙ sym (at b′)
+
+  byte-same : (j : ℕ) → j < byteCount → getD b j 0 ≡ getD b′ j 0
+  byte-same j l = ⊎-elim (λ h. row-byte-same j h) (λ h. right-same j (j - rightsAt) (omega arith) (omega arith)) (order rightsAt j)
 
   pub tables-same : (w ≡ w′) × (b ≡ b′)
   tables-same = (

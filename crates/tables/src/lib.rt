@@ -3,10 +3,11 @@
 // The words hold 64 areas of 8 words (the last word of each is spare and 0), 16 threads of 2 (kind,
 // length of the stack), the three lengths of set-up and the number of scratch words taken. The bytes
 // are rows of 32: row t has the entries of thread t, row 16 + t beside each entry the innermost scope
-// as of it, row 32 + a the display of area a.
+// as of it, row 32 + a the display of area a; behind the rows come the 36 digits of the rights table.
 mod area; // area.rt: areas
 mod displays; // displays.rt: the displays of areas
 mod lengths; // lengths.rt: the lengths of set-up, and the scratch words taken
+mod right; // right.rt: the rights table in force
 mod thread; // thread.rt: kinds and stacks
 
 pub use area::area_at;
@@ -19,6 +20,8 @@ pub use lengths::lengths_at;
 pub use lengths::put_lengths;
 pub use lengths::put_taken;
 pub use lengths::taken_at;
+pub use right::put_rights;
+pub use right::right_at;
 pub use thread::Entry;
 pub use thread::ThreadWords;
 pub use thread::entry_at;
@@ -56,6 +59,10 @@ const DISPLAY_ROWS: usize = INNER_ROWS + THREADS;
 
 const ROWS: usize = DISPLAY_ROWS + AREAS;
 
-pub const BYTES: usize = ROWS * ROW_BYTES;
+const RIGHTS_AT: usize = ROWS * ROW_BYTES;
+
+const RIGHTS: usize = 36;
+
+pub const BYTES: usize = RIGHTS_AT + RIGHTS;
 
 pub type Bytes = [u8; BYTES];

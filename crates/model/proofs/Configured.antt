@@ -1,0 +1,80 @@
+-- The rights table in force is told by the lines alone, and a load is accepted only where no thread is started.
+-- Assumes nothing.
+use Prim.Native.Nat.{ℕ}
+use mathlib.Core.Bool.{Bool, true, false}
+use mathlib.Core.List.{List, [], _∷_}
+use mathlib.Core.Path.{_≡_, refl, sym, ap, _∙_}
+use mathlib.Core.Logic.{⊎-elim}
+use lib.Dec.{eqb, ltb, leb}
+use native.Mathlib.Omega.{arith}
+use borrow.Author.Tests.{eq-eqb, ne-eqb, ltb-true}
+use Rattle.layout.specs.Choice.{pick, cases}
+use Rattle.layout.specs.Below.{none-each}
+use Rattle.model.specs.declared.Lengths.{Lengths}
+use Rattle.model.specs.State.{State, Memory, withArea, withRow, withThread, withTaken, withRights, isOpen, isScope, current, stackAt}
+use Rattle.model.specs.SetUp.{firstState}
+use Rattle.model.specs.Checks.{isStarted}
+use Rattle.model.specs.Threads.{startState, endState}
+use Rattle.model.specs.Scopes.{makeState, enteredArea, enterState, leftArea, exitState}
+use Rattle.model.specs.Objects.{allocateState}
+use Rattle.model.specs.Configuration.{anyStarted, loadRightsState}
+use Rattle.model.specs.Calls.{Call, start, end, make, enter, exit, allocate, store, write, asks, Configuration, rightsTable, configure, loadRights, configuring, callStatus, callState}
+use Rattle.model.specs.Run.{Line}
+use Rattle.model.specs.History.{History}
+use Rattle.model.specs.Values.{configuredTable, tableStep, tableLine, tableAfter}
+use Rattle.model.proofs.Accepted.{load-rights-ok}
+use Rattle.model.proofs.Sound.{Sound}
+use Rattle.model.proofs.NestingClaims.{threads}
+use Rattle.model.proofs.Outcomes.{Transition}
+
+-- ---- the table after a call
+
+configured : (s : State) (x : Configuration) → configuring s x .state .rights ≡ configuredTable (s .rights) x
+unfolding loadRightsState withRights
+configured s (rightsTable text) = refl
+
+entered : (s : State) (q p : ℕ) → enteredArea s q p .rights ≡ s .rights
+unfolding enteredArea withArea withRow
+entered s q p = cases (isScope q) (λ e. cases (isOpen s q) (λ o. rw (e, o) refl) (λ o. rw (e, o) refl)) (λ e. rw e refl)
+
+left : (s : State) (q : ℕ) → leftArea s q .rights ≡ s .rights
+unfolding leftArea withArea
+left s q = cases (isScope q) (λ e. rw e refl) (λ e. rw e refl)
+
+table-call : (s : State) (m : Memory) (c : Call) → callState s m c .rights ≡ tableStep (s .rights) c
+unfolding startState endState makeState enterState exitState allocateState withArea withThread withTaken
+table-call s m (start t p) = refl
+table-call s m (end t) = refl
+table-call s m (make t q r) = refl
+table-call s m (enter t q) = entered s q _
+table-call s m (exit t) = left s (current (stackAt s t))
+table-call s m (allocate t q r) = refl
+table-call s m (store t p q r) = refl
+table-call s m (write t p q r) = refl
+table-call s m (asks x) = refl
+table-call s m (configure x) = configured s x
+
+-- ---- and after a line
+
+-- the table in force is the one that the lines tell
+abbrev pub InForce : State → List Line → Type 0
+InForce s ls = s .rights ≡ tableAfter ls
+
+pub in-force-first : (h i : ℕ) (n : Lengths) → InForce (firstState h i n) []
+unfolding firstState tableAfter
+in-force-first h i n = refl
+
+pub in-force-line : (s : State) (m : Memory) (ls : List Line) → InForce s ls → {l : Line} {n : State} {k : Memory} → Transition s m l n k → InForce n (l ∷ ls)
+unfolding tableAfter tableLine
+in-force-line s m ls f {l} d = ⊎-elim
+    (λ x. rw (eq-eqb (l .reply .status) 0 (x .status), x .state) (table-call s m (l .call) ∙ ap (λ (r : List ℕ). tableStep r (l .call)) f))
+    (λ x. rw (ne-eqb (l .reply .status) 0 (x .status), x .state) f)
+    d
+
+-- ---- when a table is loaded
+
+pub load-idle : (s : State) (m : Memory) (b : History) → Sound s m b → (text : List ℕ) → callStatus s m (loadRights text) ≡ 0 → (t : ℕ) → b .started t ≡ false
+unfolding anyStarted
+load-idle s m b o text e t = cases (b .started t)
+    (λ z. sym (o .same .started t) ∙ none-each (isStarted s) 16 (load-rights-ok s text e .idle) t (threads s b (o .good) (o .same) t z))
+    (λ z. z)

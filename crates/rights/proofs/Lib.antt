@@ -1,2 +1,0 @@
--- The lemmas that proofs share.
-pub mod Table
