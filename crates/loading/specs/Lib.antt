@@ -1,0 +1,2 @@
+-- The laws of the load of a rights table.
+pub mod Load
