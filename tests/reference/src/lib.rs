@@ -15,6 +15,7 @@ pub mod loads;
 pub mod machine;
 pub mod memory;
 pub mod mood;
+pub mod program;
 pub mod random;
 pub mod rights;
 pub mod spoil;
