@@ -6,9 +6,10 @@
  * What is proved. For any arguments whatever, each call's status, its value, the state that it leaves and every
  * word of the three lent buffers are those that the specification (document 01) defines; a refused call changes
  * nothing; no call touches memory outside what it is lent; every call ends (the contract `Answers` of each function).
- * Over every list of calls, by any threads, of the tables and buffers that the host then holds: a thread in a scope
- * stands in all its ancestors, no reference outlives its object, and a dead handle is never accepted again (the theorem
- * `served-claims`, crates/served). Not covered: the compiler's back end, and a host that breaks the rules below.
+ * Over every list of calls, by any threads and under any rights that are loaded, of the tables and buffers that the
+ * host then holds: a thread in a scope stands in all its ancestors, no reference outlives its object, and a dead handle
+ * is never accepted again (the theorem `served-claims`, crates/served). Not covered: the compiler's back end, and a host
+ * that breaks the rules below.
  *
  * What the caller owes. A proof about these functions rests on it, and C cannot check it:
  *  - A state comes only from scopes_set_up and from the calls made with it since. Never write into its words or
