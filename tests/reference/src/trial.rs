@@ -205,11 +205,8 @@ fn same_answers(answer: Answer, other: Answer) -> Claim {
 /// Runs every frame of a list; panics with the seed and the call where a claim fails.
 pub fn run_list(seed: u64, sizes: Sizes, list: &[u8]) {
     let lines = frame::lines(list).into_iter();
-    run(
-        seed,
-        sizes,
-        lines.map(|line| frame::parse(line).map(Step::Call)),
-    );
+    let steps = lines.map(|line| frame::parse(line).map(Step::Call));
+    run(seed, sizes, steps);
 }
 
 /// Runs a list with loads likewise; yields what was loaded.

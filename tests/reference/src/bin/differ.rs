@@ -45,7 +45,6 @@ fn compare(program: &str, seed: u64, count: u64) -> Result<(), String> {
     if run.output != expected {
         return Err(first_difference(&list, &expected, &run.output));
     }
-    // A program that stops reading shows in its answers, but for the last ones.
     if !(run.success && run.all_read) {
         return Err("the answers are right, but the program failed at its end".into());
     }
