@@ -1,22 +1,24 @@
 /* The scoped-memory core for C and C++: every function that the archive libscopes.a exports.
  *
- * The archive is compiled from proved code (crates/host_state, host_objects, host_stack). README.md, "From C", shows how to build and link.
+ * The archive is compiled from proved code (crates/host_state, host_objects, host_tables, host_stack). README.md,
+ * "From C", shows how to build and link.
  *
  * What is proved. For any arguments whatever, each call's status, its value, the state that it leaves and every
  * word of the three lent buffers are those that the specification (document 01) defines; a refused call changes
  * nothing; no call touches memory outside what it is lent; every call ends (the contract `Answers` of each function).
- * Over every list of calls, by any threads, of the tables and buffers that the host then holds: a thread in a scope
- * stands in all its ancestors, no reference outlives its object, and a dead handle is never accepted again (the theorem
- * `served-claims`, crates/served). Not covered: the compiler's back end, and a host that breaks the rules below.
+ * Over every list of calls, by any threads and under any rights that are loaded, of the tables and buffers that the
+ * host then holds: a thread in a scope stands in all its ancestors, no reference outlives its object, and a dead handle
+ * is never accepted again (the theorem `served-claims`, crates/served). Not covered: the compiler's back end, and a host
+ * that breaks the rules below.
  *
  * What the caller owes. A proof about these functions rests on it, and C cannot check it:
  *  - A state comes only from scopes_set_up and from the calls made with it since. Never write into its words or
  *    bytes, never make one by hand, and never put an older copy back. The same holds of a scopes_stack.
  *  - Words and bytes that are passed together belong to one state.
- *  - Every pointer is valid for the length beside it (in words, not in bytes), not null, and aligned for its type;
- *    this holds of an empty buffer too. The state and the three buffers do not overlap. A length other than set-up's is
- *    no fault: it is refused by 1 before any word of a buffer is touched. So a length beyond the end of its buffer is the
- *    caller's fault only where it is the length of set-up.
+ *  - Every pointer is valid for the length beside it (a buffer's in words, a text's in bytes), not null, and aligned for
+ *    its type; this holds of an empty one too. The state and the three buffers do not overlap, nor do the state and a text.
+ *    A buffer's length other than set-up's is no fault: it is refused by 1 before any word of a buffer is touched. So a
+ *    length beyond the end of its buffer is the caller's fault only where it is the length of set-up.
  *  - One call at a time for a state: two calls at once need a lock around them, also where both only read.
  *  - The lent words may hold anything, and a call does what is specified whatever they hold. But what is said of a
  *    whole list of calls (no reference outlives its object) holds only while nothing else writes the permanent
@@ -37,11 +39,12 @@ extern "C" {
 /* ---- Limits */
 
 #define SCOPES_STATE_WORDS 548u       /* words of a state: 4,384 bytes */
-#define SCOPES_STATE_BYTES 3072u      /* bytes of a state, beside its words: 7,456 bytes in all */
+#define SCOPES_STATE_BYTES 3108u      /* bytes of a state, beside its words: 7,492 bytes in all */
 #define SCOPES_THREADS 16u            /* threads are 0 to 15 */
 #define SCOPES_AREAS 64u              /* areas are 0 to 63 */
 #define SCOPES_STACK_ENTRIES 32u      /* entries of one thread's stack */
 #define SCOPES_STORE_WORDS 16384u     /* most words of the permanent store, and of the scratch store */
+#define SCOPES_RIGHTS_DIGITS 36u      /* digits of a rights table */
 #define SCOPES_LAST_GENERATION 17592186044415u /* 2^44 - 1: a scope is opened at most so often */
 
 /* Words of the start map for stores of these lengths. */
@@ -56,7 +59,7 @@ extern "C" {
 /* The handle that names no object. */
 #define SCOPES_NULL 0u
 
-/* ---- Kinds of threads */
+/* ---- Kinds of threads, with what the built-in rights table lets them do; scopes_load_rights puts another in its place */
 
 enum {
     SCOPES_ORDINARY = 1,  /* heap; uses and refers to immortal objects */
@@ -72,7 +75,7 @@ enum {
     SCOPES_THREAD = 2,           /* thread above 15, or not started (start: above 15 only) */
     SCOPES_STARTED = 3,          /* thread started and not ended */
     SCOPES_KIND = 4,             /* kind not 1, 2 or 3 */
-    SCOPES_RIGHT = 5,            /* the thread's kind lacks the right */
+    SCOPES_RIGHT = 5,            /* the thread's kind lacks the right, by the table in force */
     SCOPES_AREA = 6,             /* area above 63, or scope not made (make: outside 2 to 63) */
     SCOPES_MADE = 7,             /* scope already made */
     SCOPES_SIZE = 8,             /* size 0, or above the unused scratch words */
@@ -85,7 +88,9 @@ enum {
     SCOPES_TARGET = 15,          /* target or loaded word neither null nor live */
     SCOPES_ASSIGNMENT = 16,      /* the assignment rule forbids the reference */
     SCOPES_GENERATIONS_OUT = 17, /* scope not open, its generation the last one */
-    SCOPES_NO_FRAME = 18         /* a line is no frame: of the program alone, no function gives it */
+    SCOPES_NO_FRAME = 18,        /* a line is no frame: of the program alone, no function gives it */
+    SCOPES_TABLE = 23,           /* not 36 digits, a digit other than 0 and 1, or A without U */
+    SCOPES_RUNNING = 24          /* a thread is started */
 };
 
 /* ---- Answers and records */
@@ -123,8 +128,9 @@ typedef struct scopes_stack {
 
 /* ---- Set-up */
 
-/* A first state for a heap and an immortal memory of these sizes in words. Refused by 1 unless heap + immortal is
- * permanent_len, no store is longer than 16,384 words, and the map has SCOPES_MAP_WORDS words. Writes no lent word. */
+/* A first state for a heap and an immortal memory of these sizes in words, with the built-in rights table. Refused by 1
+ * unless heap + immortal is permanent_len, no store is longer than 16,384 words, and the map has SCOPES_MAP_WORDS words.
+ * Writes no lent word. */
 scopes_new_state scopes_set_up(
     const uint64_t *permanent, size_t permanent_len,
     const uint64_t *scratch, size_t scratch_len,
@@ -233,6 +239,17 @@ scopes_view scopes_view_place(
     const uint64_t *scratch, size_t scratch_len,
     const uint64_t *map, size_t map_len,
     uint64_t thread, uint64_t object);
+
+/* ---- Rights: a call that takes the state and is lent no buffer, so that 1 does not come */
+
+/* Puts a rights table of the host's own in force, until the next load. The text is 36 digits, no line feed behind them,
+ * ordered by kind (1 to 3), class of areas (heap, immortal memory, scopes) and right (E, A, U, R); 1 where the kind has
+ * the right: E to enter such an area, A to allocate in it, U to use an object of it, R to store or load a reference to
+ * one. A is allowed only with U. target/bin/rights_table prints the digits (README.md, "Rights"). Objects made before the
+ * load live on. Refusals 23, 24. Value 0. */
+scopes_answer scopes_load_rights(
+    const uint64_t words[SCOPES_STATE_WORDS], uint8_t bytes[SCOPES_STATE_BYTES],
+    const uint8_t *text, size_t text_len);
 
 /* ---- A scope stack for the host's scheduler. It knows of no state and is never put back into one. */
 

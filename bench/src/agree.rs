@@ -3,11 +3,14 @@
 
 use in_line::{check_by_display, check_by_scan, check_by_walk};
 use reference::random::Random;
+use reference::texts;
 
 use crate::machine::{Answer, Core, InLine, Machine, Plain, Scan, Walk};
 
 const LISTS: u64 = 100;
 const CALLS: u64 = 2_000;
+/// Most loads before the threads start, and how many are tried after it.
+const LOADS: u64 = 3;
 /// The kinds of the threads, and how many scopes each of them makes.
 const KINDS: [u64; 4] = [2, 2, 1, 3];
 const SCOPES: u64 = 4;
@@ -41,12 +44,18 @@ struct Seen {
 fn run(seed: u64, seen: &mut Seen) {
     let mut random = Random::new(seed);
     let mut sides = Sides::set_up(seed);
+    for _ in 0..random.below(LOADS + 1) {
+        sides.load_rights(&mut random);
+    }
     for (thread, kind) in (0..).zip(KINDS) {
         sides.call(|machine| machine.start(thread, kind));
         for scope in 0..SCOPES {
             let (area, size) = (2 + thread * SCOPES + scope, random.between(1, 60));
             sides.call(|machine| machine.make(thread, area, size));
         }
+    }
+    for _ in 0..LOADS {
+        sides.load_rights(&mut random);
     }
     let mut handles = vec![0];
     for _ in 0..CALLS {
@@ -129,6 +138,11 @@ impl Sides {
 
     fn same<T: PartialEq + std::fmt::Debug>(&self, name: &str, given: T, expected: T) {
         assert_eq!(given, expected, "{name} differs, seed {}", self.seed);
+    }
+
+    fn load_rights(&mut self, random: &mut Random) {
+        let text = texts::any(random);
+        self.call(|machine| machine.load_rights(text.bytes()));
     }
 
     fn enter(&mut self, t: u64, area: u64) -> Answer {

@@ -15,6 +15,7 @@ pub trait Machine {
     fn set_up() -> Self
     where
         Self: Sized;
+    fn load_rights(&mut self, text: &[u8]) -> Answer;
     fn start(&mut self, t: u64, kind: u64) -> Answer;
     fn make(&mut self, t: u64, area: u64, size: u64) -> Answer;
     fn enter(&mut self, t: u64, area: u64) -> Answer;
@@ -49,7 +50,7 @@ impl Supplied {
 #[repr(C, align(64))]
 struct Tables {
     words: [u64; 548],
-    bytes: [u8; 3072],
+    bytes: [u8; 3108],
 }
 
 pub struct Core {
@@ -98,6 +99,13 @@ impl Machine for Core {
         let c::NewState { words, bytes, .. } = state;
         let state = Box::new(Tables { words, bytes });
         Core { state, supplied }
+    }
+
+    fn load_rights(&mut self, text: &[u8]) -> Answer {
+        let Tables { words, bytes } = &mut *self.state;
+        let (words, bytes) = (words.as_ptr(), bytes.as_mut_ptr());
+        // SAFETY: the state is one of set-up and calls; the text is a slice with its length.
+        unsafe { c::scopes_load_rights(words, bytes, text.as_ptr(), text.len()) }
     }
 
     #[inline(always)]
@@ -169,6 +177,14 @@ macro_rules! plain_side {
                 $side {
                     state: Box::new($module::State::set_up(PERMANENT, SCRATCH, MAP, HEAP)),
                     supplied: Supplied::new(),
+                }
+            }
+
+            fn load_rights(&mut self, text: &[u8]) -> Answer {
+                let answer = $module::load_rights(&mut self.state, text);
+                Answer {
+                    status: answer.status,
+                    value: answer.value,
                 }
             }
 

@@ -43,7 +43,11 @@ pub struct State {
     pub scratch: usize,
     pub map: usize,
     pub taken: u64,
+    pub rights: Rights,
 }
+
+/// For each kind and class of areas the four rights.
+type Rights = [[[bool; 4]; 3]; 3];
 
 #[derive(Clone, Copy)]
 enum Right {
@@ -53,16 +57,12 @@ enum Right {
     Refer,
 }
 
-/// For each kind and class of areas the four rights.
-const RIGHTS: [[[bool; 4]; 3]; 3] = [
+/// The rights before the first load.
+const BUILT_IN: Rights = [
     [[true; 4], [false, false, true, true], [false; 4]],
     [[true; 4], [true; 4], [true; 4]],
     [[false; 4], [true; 4], [true; 4]],
 ];
-
-fn allowed(kind: u64, area: usize, right: Right) -> bool {
-    RIGHTS[kind as usize - 1][area.min(2)][right as usize]
-}
 
 fn refused(status: u64) -> Answer {
     Answer { status, value: 0 }
@@ -122,7 +122,12 @@ impl State {
             scratch,
             map,
             taken: 0,
+            rights: BUILT_IN,
         }
+    }
+
+    fn allowed(&self, kind: u64, area: usize, right: Right) -> bool {
+        self.rights[kind as usize - 1][area.min(2)][right as usize]
     }
 
     fn fits(&self, permanent: &[u64], scratch: &[u64], map: &[u64]) -> bool {
@@ -193,7 +198,7 @@ impl State {
     ) -> Result<(Object, u64), u64> {
         let kind = self.caller(permanent, scratch, map, t)?.kind;
         let object = self.look_up(permanent, scratch, map, object).ok_or(13u64)?;
-        if !allowed(kind, object.area, Right::Use) {
+        if !self.allowed(kind, object.area, Right::Use) {
             return Err(5);
         }
         Ok((object, kind))
@@ -213,14 +218,42 @@ impl State {
             return Ok(None);
         }
         let found = self.look_up(permanent, scratch, map, target).ok_or(15u64)?;
-        if !allowed(kind, found.area, Right::Refer) {
+        if !self.allowed(kind, found.area, Right::Refer) {
             return Err(5);
         }
         Ok(Some(found.area))
     }
 }
 
-// ---- ops 01 and 03, which are not measured
+// ---- a load, and ops 01 and 03, which are not measured
+
+pub fn load_rights(st: &mut State, text: &[u8]) -> Answer {
+    let Some(rights) = rights_of(text) else {
+        return refused(23);
+    };
+    if st.threads.iter().any(|thread| thread.kind != 0) {
+        return refused(24);
+    }
+    st.rights = rights;
+    accepted(0)
+}
+
+/// 36 digits, each 0 or 1, the second of four 1 only where the third is.
+fn rights_of(text: &[u8]) -> Option<Rights> {
+    let text: &[u8; 36] = text.try_into().ok()?;
+    let mut rights = BUILT_IN;
+    let places = rights.iter_mut().flatten().flatten();
+    for (place, digit) in places.zip(text) {
+        *place = match digit {
+            b'0' => false,
+            b'1' => true,
+            _ => return None,
+        };
+    }
+    let mut classes = rights.iter().flatten();
+    let loadable = classes.all(|&[_, allocates, uses, _]| uses || !allocates);
+    loadable.then_some(rights)
+}
 
 pub fn start(st: &mut State, p: &[u64], s: &[u64], m: &[u64], t: u64, kind: u64) -> Answer {
     if !st.fits(p, s, m) {
@@ -287,7 +320,7 @@ fn try_enter(
         return Err(6);
     }
     let area = area as usize;
-    if !allowed(thread.kind, area, Right::Enter) {
+    if !st.allowed(thread.kind, area, Right::Enter) {
         return Err(5);
     }
     if thread.len >= 32 {
@@ -379,7 +412,7 @@ pub fn allocate(
         0 => 0,
         len => thread.entries[len - 1] as usize,
     };
-    if !allowed(thread.kind, area, Right::Allocate) {
+    if !st.allowed(thread.kind, area, Right::Allocate) {
         return refused(5);
     }
     let record = &mut st.areas[area];

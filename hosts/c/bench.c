@@ -1,7 +1,9 @@
 /* A measuring bench in C: calls by its threads, in orders that broke earlier versions of the core, with what the core
- * answers. A helper leaves a parent while its child is open; a plotter keeps a reference into a sample that is emptied. */
+ * answers. A helper leaves a parent while its child is open; a plotter keeps a reference into a sample that is emptied. At
+ * the end the bench loads a rights table of its own. */
 #include <inttypes.h>
 #include <stdio.h>
+#include <string.h>
 
 #include "scopes.h"
 
@@ -9,7 +11,7 @@ enum { HEAP_WORDS = 64, IMMORTAL_WORDS = 64, PERMANENT_WORDS = HEAP_WORDS + IMMO
 enum { MAP_WORDS = SCOPES_MAP_WORDS(PERMANENT_WORDS, SCRATCH_WORDS) };
 
 /* The threads of this bench and its scopes. */
-enum { METER = 0, HELPER = 1, PLOTTER = 2 };
+enum { METER = 0, HELPER = 1, PLOTTER = 2, CLERK = 3 };
 enum { RUN = 2, SAMPLE = 3 };
 
 /* The memory that this host lends, and the state that set-up gave. */
@@ -23,8 +25,8 @@ static scopes_new_state core;
 
 /* The records are laid out as the archive has them. */
 _Static_assert(sizeof(((scopes_new_state *)0)->words) == 4384, "words of a state");
-_Static_assert(sizeof(((scopes_new_state *)0)->bytes) == 3072, "bytes of a state");
-_Static_assert(sizeof(scopes_new_state) == 8 + 4384 + 3072, "what set-up gives");
+_Static_assert(sizeof(((scopes_new_state *)0)->bytes) == 3108, "bytes of a state");
+_Static_assert(sizeof(scopes_new_state) == 8 + 4384 + 3108 + 4, "what set-up gives, up to a whole word");
 _Static_assert(sizeof(scopes_answer) == 16, "an answer");
 _Static_assert(sizeof(scopes_view) == 32, "a view");
 _Static_assert(sizeof(scopes_stack) == 40, "a stack");
@@ -53,6 +55,8 @@ static const char *name_of(uint64_t status)
         NAMED(SCOPES_ASSIGNMENT);
         NAMED(SCOPES_GENERATIONS_OUT);
         NAMED(SCOPES_NO_FRAME);
+        NAMED(SCOPES_TABLE);
+        NAMED(SCOPES_RUNNING);
         default: return "no status";
     }
 }
@@ -176,6 +180,35 @@ static void beside_the_calls(void)
                       SCOPES_REAL_TIME));
 }
 
+/* The table of this bench: ff0, fff, 0ff, where the built-in one has f30 in its first line. Ordinary threads have every
+ * right in immortal memory too. */
+#define OWN_RIGHTS "111111110000" "111111111111" "000011111111"
+_Static_assert(sizeof(OWN_RIGHTS) - 1 == SCOPES_RIGHTS_DIGITS, "digits of a table");
+
+static scopes_answer load_rights(const char *digits)
+{
+    return scopes_load_rights(core.words, core.bytes, (const uint8_t *)digits, strlen(digits));
+}
+
+/* The clerk, an ordinary thread, writes into immortal memory once the bench's own table is in force. */
+static void rights_of_its_own(void)
+{
+    title("Rights of the bench's own");
+    show("clerk starts, ordinary", scopes_start(SUPPLIED, CLERK, SCOPES_ORDINARY));
+    show("clerk enters immortal memory", scopes_enter(SUPPLIED, CLERK, SCOPES_IMMORTAL));
+    show("bench loads its own table, the clerk is started", load_rights(OWN_RIGHTS));
+    show("clerk ends", scopes_end(SUPPLIED, CLERK));
+    show("bench loads its own table with a line feed behind it", load_rights(OWN_RIGHTS "\n"));
+    show("bench loads its own table", load_rights(OWN_RIGHTS));
+    show("clerk starts, ordinary", scopes_start(SUPPLIED, CLERK, SCOPES_ORDINARY));
+    show("clerk enters immortal memory", scopes_enter(SUPPLIED, CLERK, SCOPES_IMMORTAL));
+    uint64_t entry = show("clerk allocates entry in immortal memory, 1 data word", scopes_allocate(SUPPLIED, CLERK, 0, 1));
+    show("clerk writes 12 into entry", scopes_write(SUPPLIED, CLERK, entry, 0, 12));
+    show("clerk enters sample", scopes_enter(SUPPLIED, CLERK, SAMPLE));
+    show("clerk leaves immortal memory", scopes_exit(SUPPLIED, CLERK));
+    show("clerk ends", scopes_end(SUPPLIED, CLERK));
+}
+
 int main(void)
 {
     begin();
@@ -183,5 +216,6 @@ int main(void)
     reference_into_emptied_sample();
     another_nesting();
     beside_the_calls();
+    rights_of_its_own();
     return 0;
 }

@@ -24,9 +24,10 @@ pub struct Core<'m> {
 
 impl<'m> Core<'m> {
     /// A first state over a permanent store (heap, then immortal memory, of these sizes in words), a
-    /// scratch store and a start map. Their words may hold anything; none is written. Refused by
-    /// [`Refusal::Lengths`] unless heap + immortal is the permanent store's length, no store is
-    /// longer than 16,384 words, and the map has [`map_words`] words.
+    /// scratch store and a start map, with the built-in rights table (see [`Kind`]). The words may
+    /// hold anything; none is written. Refused by [`Refusal::Lengths`] unless heap + immortal is the
+    /// permanent store's length, no store is longer than 16,384 words, and the map has [`map_words`]
+    /// words.
     pub fn set_up(
         permanent: &'m mut [u64],
         scratch: &'m mut [u64],
@@ -46,6 +47,29 @@ impl<'m> Core<'m> {
             memory,
             not_sync: PhantomData,
         })
+    }
+
+    /// Puts a rights table in force, until the next load: 36 digits, 0 or 1, ordered by kind, class
+    /// of areas (heap, immortal memory, scopes) and right (E to enter an area, A to allocate in it, U
+    /// to use an object of it, R to store or load a reference to one), A only with U. Before the
+    /// first load the built-in table is in force. Objects made before live on. Refusals 23, 24.
+    ///
+    /// ```
+    /// # use scopes::{map_words, Area, Core, Kind, Refusal, Thread};
+    /// # let (mut permanent, mut scratch, mut map) = ([0; 8], [0; 0], [0; map_words(8, 0)]);
+    /// # let mut core = Core::set_up(&mut permanent, &mut scratch, &mut map, 4, 4)?;
+    /// // Ordinary threads get all rights in immortal memory; else as in the built-in table.
+    /// core.load_rights(b"111111110000111111111111000011111111")?;
+    /// let clerk = Thread::new(0);
+    /// core.start(clerk, Kind::Ordinary)?;
+    /// core.enter(clerk, Area::IMMORTAL)?;
+    /// let note = core.allocate(clerk, 0, 1)?;
+    /// assert_eq!(note.area(), Area::IMMORTAL);
+    /// assert_eq!(core.load_rights(&[b'1'; 36]), Err(Refusal::Running));
+    /// # Ok::<(), Refusal>(())
+    /// ```
+    pub fn load_rights(&mut self, digits: &[u8]) -> Result<(), Refusal> {
+        value(sys::load_rights(&mut self.state, digits)).map(|_| ())
     }
 
     /// Starts a thread. Refusals 2, 3.

@@ -6,7 +6,7 @@
 pub struct NewState {
     pub status: u64,
     pub words: [u64; 548],
-    pub bytes: [u8; 3072],
+    pub bytes: [u8; 3108],
 }
 
 /// Status 0 and a value, or a refusal and 0.
@@ -81,6 +81,12 @@ extern "C" {
         heap: u64,
         immortal: u64,
     ) -> NewState;
+    pub fn scopes_load_rights(
+        words: *const u64,
+        bytes: *mut u8,
+        text: *const u8,
+        text_len: usize,
+    ) -> Answer;
     pub fn scopes_stack_empty() -> ScopeStack;
     pub fn scopes_stack_push(stack: *mut ScopeStack, area: u64) -> Answer;
     pub fn scopes_stack_pop(stack: *mut ScopeStack) -> Answer;

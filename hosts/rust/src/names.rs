@@ -19,7 +19,9 @@ impl Thread {
     }
 }
 
-/// The kind of a thread, which decides what it may do in which area.
+/// The kind of a thread, which decides what it may do in which area. What each kind may do is told
+/// here by the built-in rights table; [`Core::load_rights`](crate::Core::load_rights) puts another in
+/// its place.
 #[derive(Clone, Copy, Debug, PartialEq, Eq, Hash)]
 pub enum Kind {
     /// Has all rights in the heap, and may use immortal objects and refer to them.

@@ -16,7 +16,7 @@ pub enum Refusal {
     Started = 3,
     /// Kind not 1, 2 or 3; [`Kind`](crate::Kind) has no other.
     Kind = 4,
-    /// The thread's kind lacks the right.
+    /// The thread's kind lacks the right, by the table in force.
     Right = 5,
     /// Area above 63, or scope not made; of `make`: no scope's number.
     Area = 6,
@@ -42,10 +42,13 @@ pub enum Refusal {
     Assignment = 16,
     /// Scope not open, its generation the last one, 2^44 - 1.
     GenerationsOut = 17,
+    /// A rights table has not 36 digits, a digit other than 0 and 1, or A without U.
+    Table = 23,
+    /// A thread is started.
+    Running = 24,
 }
 
-/// All refusals, that of number n at place n - 1.
-const ALL: [Refusal; 17] = [
+const ALL: [Refusal; 19] = [
     Refusal::Lengths,
     Refusal::Thread,
     Refusal::Started,
@@ -63,13 +66,14 @@ const ALL: [Refusal; 17] = [
     Refusal::Target,
     Refusal::Assignment,
     Refusal::GenerationsOut,
+    Refusal::Table,
+    Refusal::Running,
 ];
 
 impl Refusal {
-    /// The refusal with a number from 1 to 17.
+    /// The refusal with a number, which is from 1 to 17, 23 or 24.
     pub fn from_number(number: u64) -> Option<Refusal> {
-        let place = usize::try_from(number).ok()?.checked_sub(1)?;
-        ALL.get(place).copied()
+        ALL.into_iter().find(|refusal| refusal.number() == number)
     }
 
     /// Its number.
@@ -91,7 +95,7 @@ pub(crate) fn check(status: u64) -> Result<(), Refusal> {
     if status == 0 {
         return Ok(());
     }
-    Err(Refusal::from_number(status).expect("a status is at most 17"))
+    Err(Refusal::from_number(status).expect("a status is 0 or that of a refusal"))
 }
 
 /// The value of an answer, or its refusal.

@@ -21,7 +21,7 @@ pub struct State(Box<Tables>);
 #[repr(C, align(64))]
 struct Tables {
     words: [u64; 548],
-    bytes: [u8; 3072],
+    bytes: [u8; 3108],
 }
 
 /// Safe functions over exported ones: the state and the memory are lent as the declaration says.
@@ -93,6 +93,21 @@ pub fn set_up(memory: &Memory, heap: u64, immortal: u64) -> (u64, State) {
     (status, State(Box::new(Tables { words, bytes })))
 }
 
+/// A load, which is lent no memory.
+pub fn load_rights(state: &mut State, text: &[u8]) -> Answer {
+    let Tables { words, bytes } = &mut *state.0;
+    // SAFETY: the tables are those of a state and have their sizes, the bytes are borrowed for
+    // writing, and the text is a slice with its own length.
+    unsafe {
+        scopes_load_rights(
+            words.as_ptr(),
+            bytes.as_mut_ptr(),
+            text.as_ptr(),
+            text.len(),
+        )
+    }
+}
+
 pub fn stack_empty() -> ScopeStack {
     // SAFETY: the function asks for nothing.
     unsafe { scopes_stack_empty() }
@@ -140,6 +155,22 @@ mod tests {
         assert_eq!(read(&state, &memory, 0, 1, 0).status, 1);
         assert_eq!(view_status(&state, &memory, 0, 1).status, 1);
         assert_eq!(view_place(&state, &memory, 0, 1).status, 1);
+    }
+
+    /// A load is lent no memory: the state of a refused set-up takes one too.
+    #[test]
+    fn loads_without_memory() {
+        let mut permanent = [0; 4];
+        let memory = Memory {
+            permanent: &mut permanent,
+            scratch: &mut [],
+            map: &mut [],
+        };
+        let (status, mut state) = set_up(&memory, 4, 0);
+        assert_eq!(status, 1);
+        assert_eq!(load_rights(&mut state, &[b'1'; 36]).status, 0);
+        assert_eq!(load_rights(&mut state, &[]).status, 23);
+        assert_eq!(start(&mut state, &memory, 0, 2).status, 1);
     }
 
     /// The state of a refused set-up serves empty buffers.

@@ -1,5 +1,6 @@
-//! Each refusal that a host can meet, by its number. 4 has no `Kind`, 17 takes 2^44 - 1 entries, and
-//! after an accepted set-up 1 cannot come, since the core keeps its buffers.
+//! Each refusal that a host can meet, by its number; 23 and 24, of loads, are in `rights.rs`. 4 has no
+//! `Kind`, 17 takes 2^44 - 1 entries, and after an accepted set-up 1 cannot come, since the core keeps
+//! its buffers.
 
 mod common;
 
@@ -230,12 +231,13 @@ fn refusals_change_nothing() {
 
 #[test]
 fn numbers_of_refusals() {
-    for number in 1..=17 {
+    for number in (1..=17).chain([23, 24]) {
         let refusal = Refusal::from_number(number).unwrap();
         assert_eq!(refusal.number(), number);
     }
-    assert_eq!(Refusal::from_number(0), None);
-    assert_eq!(Refusal::from_number(18), None);
+    for number in [0, 18, 19, 20, 21, 22, 25, u64::MAX] {
+        assert_eq!(Refusal::from_number(number), None);
+    }
     let text = Refusal::Parent.to_string();
     assert_eq!(text, "refused by 10, Parent");
 }

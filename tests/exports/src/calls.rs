@@ -2,23 +2,28 @@
 //! description of it.
 
 use reference::calls::{Call, Op};
+use reference::texts::Text;
 
 use crate::exports::*;
 use crate::supplied::Supplied;
 
-/// A call on a state: one of the ops, or one of the two calls of the shown part.
+/// A call on a state: one of the ops, one of the two calls of the shown part, or a load, which is
+/// lent no buffer.
 #[derive(Clone, Copy, Debug, PartialEq, Eq)]
 pub enum Request {
     Call(Call),
     ViewStatus { thread: u64, object: u64 },
     ViewPlace { thread: u64, object: u64 },
+    LoadRights { text: Text },
 }
 
 impl Request {
     /// Whether the call, accepted or not, leaves the state as it is: ops 07 to 0a and the shown part.
     pub fn keeps_state(&self) -> bool {
-        let Request::Call(Call { op, .. }) = self else {
-            return true;
+        let op = match self {
+            Request::Call(Call { op, .. }) => op,
+            Request::ViewStatus { .. } | Request::ViewPlace { .. } => return true,
+            Request::LoadRights { .. } => return false,
         };
         matches!(
             op,
@@ -94,7 +99,15 @@ pub fn call(state: &mut NewState, supplied: &mut Supplied, request: Request) -> 
         Request::ViewPlace { thread, object } => {
             Reply::View(call!(scopes_view_place, state, supplied, thread, object))
         }
+        Request::LoadRights { text } => Reply::Answer(load_rights(state, text.bytes())),
     }
+}
+
+fn load_rights(state: &mut NewState, text: &[u8]) -> Answer {
+    let (words, bytes) = (state.words.as_mut_ptr(), state.bytes.as_mut_ptr());
+    // SAFETY: the tables as above; the text is a slice with its own length, apart from them. The words
+    // are borrowed for writing, so that a write is seen.
+    unsafe { scopes_load_rights(words, bytes, text.as_ptr(), text.len()) }
 }
 
 fn call_op(state: &mut NewState, supplied: &mut Supplied, t: u64, op: Op) -> Answer {

@@ -5,14 +5,15 @@ use reference::layout::{Handle, NULL};
 use reference::memory::Memory;
 use reference::random::Random;
 use reference::state::{is_scope, State, AREAS, FIRST_SCOPE, LAST_GENERATION, THREADS};
+use reference::texts;
 
 use crate::calls::Request;
 use crate::pair::{op, Buffer};
 
 /// How many handles are remembered.
 const REMEMBERED: usize = 60;
-/// Functions to choose from: ops 01 to 0a, then the two calls of the shown part.
-const FUNCTIONS: usize = 12;
+/// Functions to choose from: ops 01 to 0a, the two calls of the shown part, then the load.
+const FUNCTIONS: usize = 13;
 
 /// The weight of entries where a stack is to be filled; others are at most 10.
 const FILLING: u64 = 300;
@@ -25,7 +26,7 @@ pub struct Seen<'a> {
 }
 
 impl Seen<'_> {
-    fn is_live(self, word: u64) -> bool {
+    pub fn is_live(self, word: u64) -> bool {
         self.state.is_live(self.memory, word)
     }
 }
@@ -42,6 +43,8 @@ pub struct Chooser {
     calls_left: u64,
     /// The thread that most of them are by.
     focus: u64,
+    /// Whether every thread is led out, for a load.
+    leading_out: bool,
 }
 
 impl Chooser {
@@ -49,9 +52,10 @@ impl Chooser {
         Chooser {
             random,
             known: Vec::new(),
-            weights: [6, 1, 6, 4, 1, 2, 1, 1, 1, 1, 1, 1],
+            weights: [6, 1, 6, 4, 1, 2, 1, 1, 1, 1, 1, 1, 1],
             calls_left: 20,
             focus: 0,
+            leading_out: false,
         }
     }
 
@@ -71,6 +75,9 @@ impl Chooser {
     pub fn request(&mut self, seen: Seen) -> Request {
         let state = seen.state;
         self.change_weights();
+        if let Some(request) = self.towards_a_load(state) {
+            return request;
+        }
         let thread = self.thread(state);
         match self.random.weighted(&self.weights) {
             0 => op(self.new_thread(state), self.start()),
@@ -87,11 +94,31 @@ impl Chooser {
                 thread,
                 object: self.object(seen),
             },
-            _ => Request::ViewPlace {
+            11 => Request::ViewPlace {
                 thread,
                 object: self.object(seen),
             },
+            _ => self.load_rights(),
         }
+    }
+
+    /// Often a load where no thread is started, now and then where one alone is; the next exit or end
+    /// where they are led out.
+    fn towards_a_load(&mut self, state: &State) -> Option<Request> {
+        let started = started(state);
+        let chance = [30, 5].get(started.len()).copied().unwrap_or(0);
+        if self.random.percent(chance) {
+            return Some(self.load_rights());
+        }
+        self.leading_out &= !started.is_empty();
+        let thread = started.first().filter(|_| self.leading_out).copied()?;
+        let empty = state.thread(thread).stack.is_empty();
+        Some(op(thread, if empty { Op::End } else { Op::Exit }))
+    }
+
+    fn load_rights(&mut self) -> Request {
+        let text = texts::any(&mut self.random);
+        Request::LoadRights { text }
     }
 
     /// Every few calls another mixture; now and then almost nothing but entries, to fill a stack.
@@ -109,8 +136,10 @@ impl Chooser {
             self.weights[3] = FILLING;
             self.calls_left = 50;
         }
-        // Threads end seldom, so that some are there.
+        // Threads end seldom, so that some are there, but now and then all do. Loads are seldom too.
         self.weights[1] = 1;
+        self.weights[12] = 1;
+        self.leading_out = self.random.percent(6);
     }
 
     /// One of a few bad numbers, or any.
@@ -127,9 +156,7 @@ impl Chooser {
         if self.random.percent(3) {
             return self.any_word();
         }
-        let started: Vec<u64> = (0..THREADS)
-            .filter(|&thread| state.thread(thread).kind.is_some())
-            .collect();
+        let started = started(state);
         if self.random.percent(60) && started.contains(&self.focus) {
             return self.focus;
         }
@@ -372,4 +399,10 @@ impl Chooser {
         }
         other
     }
+}
+
+/// The threads that are started.
+pub fn started(state: &State) -> Vec<u64> {
+    let started = |&thread: &u64| state.thread(thread).kind.is_some();
+    (0..THREADS).filter(started).collect()
 }

@@ -1,13 +1,16 @@
 //! One list of calls from a seed: a set-up, random calls with words that the host writes between
 //! them, every thread led out at the end, and a stack record.
 
-use reference::calls::Op;
+use reference::calls::{Call, Op};
+use reference::layout::Handle;
 use reference::memory::{Lengths, Memory};
 use reference::random::Random;
-use reference::state::{LAST_GENERATION, MOST_WORDS, THREADS};
+use reference::rights::{Kind, DIGITS};
+use reference::state::{is_scope, IMMORTAL, LAST_GENERATION, MOST_WORDS, THREADS};
+use reference::texts::{self, Text};
 
 use crate::calls::{Reply, Request};
-use crate::chooser::Chooser;
+use crate::chooser::{started, Chooser};
 use crate::pair::{op, Pair};
 use crate::records;
 use crate::tally::Tally;
@@ -132,6 +135,9 @@ impl List<'_> {
             let other = self.chooser.other_lengths(&self.pair.memory);
             let reply = self.pair.call_on(&other, request)?;
             self.tally.add_reply(request, reply);
+            let loaded = matches!(request, Request::LoadRights { .. }) && reply.status() == 0;
+            let situation = "a load beside buffers of other lengths";
+            self.tally.note(loaded, situation);
         }
         self.call(request)
     }
@@ -159,20 +165,36 @@ impl List<'_> {
 
     /// Remembers handles, and notes what is worth it.
     fn look_at(&mut self, request: Request, reply: Reply) {
-        let (Request::Call(call), Reply::Answer(answer)) = (request, reply) else {
-            return;
-        };
-        if answer.status != 0 {
-            return;
+        let status = reply.status();
+        match (request, reply) {
+            (Request::Call(call), Reply::Answer(answer)) if status == 0 => {
+                self.look_at_accepted(call, answer.value);
+            }
+            (Request::Call(call), _) => {
+                let real_time = self.kind(call.thread) == Some(Kind::RealTime);
+                let situation = "a real-time thread lacks a right";
+                self.tally.note(status == 5 && real_time, situation);
+            }
+            (Request::LoadRights { text }, _) => self.look_at_load(text, status),
+            _ => {}
         }
+    }
+
+    fn look_at_accepted(&mut self, call: Call, value: u64) {
+        let ordinary = self.kind(call.thread) == Some(Kind::Ordinary);
         match call.op {
             Op::Allocate { .. } => {
-                self.chooser.remember(answer.value);
-                self.given.push(answer.value);
+                self.chooser.remember(value);
+                self.given.push(value);
+                let immortal = Handle::unpack(value).area == IMMORTAL;
+                let situation = "an ordinary thread allocates in immortal memory";
+                self.tally.note(ordinary && immortal, situation);
             }
-            Op::Enter { .. } => {
-                let last = answer.value == LAST_GENERATION;
+            Op::Enter { area } => {
+                let last = value == LAST_GENERATION;
                 self.tally.note(last, "a scope at the last generation");
+                let situation = "an ordinary thread enters a scope";
+                self.tally.note(ordinary && is_scope(area), situation);
             }
             Op::Write { object, .. } => {
                 let forged = !self.given.contains(&object);
@@ -183,7 +205,36 @@ impl List<'_> {
         }
     }
 
-    /// Shows what the calls left: every known object, and every stack, taken off entry by entry.
+    fn kind(&self, thread: u64) -> Option<Kind> {
+        self.pair.state.threads.get(thread as usize)?.kind
+    }
+
+    fn look_at_load(&mut self, text: Text, status: u64) {
+        let seen = self.pair.seen();
+        let objects = self.chooser.known().iter().any(|&word| seen.is_live(word));
+        let running = started(seen.state);
+        let text = text.bytes();
+        let digits = text.iter().all(|digit| b"01".contains(digit));
+        let line_feed = text.len() == DIGITS + 1 && text.ends_with(b"\n");
+        let broken = "a text that breaks the rules while a thread is started";
+        let notes = [
+            (status == 0 && objects, "a load while objects are alive"),
+            (digits && text.len() == DIGITS - 1, "a text one digit short"),
+            (digits && text.len() == DIGITS + 1, "a text one digit long"),
+            (line_feed, "a text with a line feed behind it"),
+            (status == 23 && !running.is_empty(), broken),
+            (
+                status == 24 && running == [15],
+                "a load refused for thread 15 alone",
+            ),
+        ];
+        for (happened, situation) in notes {
+            self.tally.note(happened, situation);
+        }
+    }
+
+    /// Shows what the calls left: every known object, and every stack, taken off entry by entry. A
+    /// table can be loaded then.
     fn lead_out(&mut self) -> Result<(), String> {
         for thread in 0..THREADS {
             for object in self.chooser.known().to_vec() {
@@ -194,6 +245,7 @@ impl List<'_> {
             }
             self.call(op(thread, Op::End))?;
         }
-        Ok(())
+        let text = texts::table(&mut self.chooser.random);
+        self.call(Request::LoadRights { text })
     }
 }

@@ -12,6 +12,8 @@ use crate::supplied::Supplied;
 
 /// Where a scope's generation stands in the tables: the fourth of the eight words of its area.
 const GENERATION: usize = 3;
+/// Where the rights table stands: the last 36 bytes.
+const RIGHTS: usize = 3_072;
 
 pub struct Pair {
     /// The proved core: its tables and what it is lent.
@@ -48,6 +50,8 @@ impl Pair {
             state,
             memory,
         };
+        pair.same_rights()
+            .map_err(|words| format!("{request}: {words}"))?;
         Ok((status, pair))
     }
 
@@ -68,7 +72,7 @@ impl Pair {
         self.compare(request, &before, given, expected, difference)
     }
 
-    /// A call on other buffers, of other lengths, which are not kept.
+    /// A call on other buffers, of other lengths, which are not kept. To a load they mean nothing.
     pub fn call_on(&mut self, other: &Memory, request: Request) -> Result<Reply, String> {
         let before = self.given.clone();
         let (mut supplied, mut memory) = (Supplied::new(other), other.clone());
@@ -96,7 +100,26 @@ impl Pair {
         if keeps_state && self.given != *before {
             return Err(format!("{request:x?}: {given:?}, but the state changed"));
         }
+        if matches!(request, Request::LoadRights { .. }) && !self.same_but_rights(before) {
+            return Err(format!("{request:x?}: more than the rights changed"));
+        }
+        self.same_rights()
+            .map_err(|words| format!("{request:x?}: {words}"))?;
         Ok(given)
+    }
+
+    /// The tables have the second implementation's rights.
+    fn same_rights(&self) -> Result<(), String> {
+        let (given, expected) = (&self.given.bytes[RIGHTS..], self.state.rights.digits());
+        if given == expected {
+            return Ok(());
+        }
+        Err(format!("rights {given:?}, expected {expected:?}"))
+    }
+
+    /// Whether the tables are as before, the rights apart.
+    fn same_but_rights(&self, before: &NewState) -> bool {
+        self.given.words == before.words && self.given.bytes[..RIGHTS] == before.bytes[..RIGHTS]
     }
 
     /// A word of a buffer that the host writes itself, on both sides.
@@ -130,6 +153,7 @@ fn expected(state: &mut State, memory: &mut Memory, request: Request) -> Reply {
     let answer = match request {
         Request::Call(call) => state.run(memory, call),
         Request::ViewStatus { thread, object } => state.view_status_of(memory, thread, object),
+        Request::LoadRights { text } => state.load_rights(text.bytes()),
         Request::ViewPlace { thread, object } => {
             return Reply::View(expected_view(state, memory, thread, object))
         }

@@ -7,7 +7,7 @@ use reference::calls::{Call, Op};
 use crate::calls::{Reply, Request};
 
 /// Each function with the statuses that it can give.
-const REACHABLE: [(&str, &[u64]); 15] = [
+const REACHABLE: [(&str, &[u64]); 16] = [
     ("set_up", &[0, 1]),
     ("start", &[0, 1, 2, 3, 4]),
     ("end", &[0, 1, 2, 11]),
@@ -21,12 +21,13 @@ const REACHABLE: [(&str, &[u64]); 15] = [
     ("read", &[0, 1, 2, 5, 13, 14]),
     ("view_status", &[0, 1, 2, 5, 13]),
     ("view_place", &[0, 1, 2, 5, 13]),
+    ("load_rights", &[0, 23, 24]),
     ("stack_push", &[0, 6, 9]),
     ("stack_pop", &[0, 11]),
 ];
 
 /// What the lists are meant to bring about beside the statuses.
-const SITUATIONS: [&str; 12] = [
+const SITUATIONS: [&str; 22] = [
     "a part of the permanent store",
     "a part of the scratch store",
     "a part of length 0 that is not refused",
@@ -39,6 +40,16 @@ const SITUATIONS: [&str; 12] = [
     "stores of 16,384 words",
     "a permanent store of 16,385 words",
     "a scratch store of 16,385 words",
+    "a load while objects are alive",
+    "a load beside buffers of other lengths",
+    "a text one digit short",
+    "a text one digit long",
+    "a text with a line feed behind it",
+    "a text that breaks the rules while a thread is started",
+    "a load refused for thread 15 alone",
+    "an ordinary thread allocates in immortal memory",
+    "an ordinary thread enters a scope",
+    "a real-time thread lacks a right",
 ];
 
 #[derive(Default)]
@@ -100,11 +111,11 @@ fn print_counts(name: &str, counts: impl Iterator<Item = (String, u64)>) -> u64 
 }
 
 fn function_of(request: Request) -> &'static str {
-    let Request::Call(Call { op, .. }) = request else {
-        return match request {
-            Request::ViewStatus { .. } => "view_status",
-            _ => "view_place",
-        };
+    let op = match request {
+        Request::Call(Call { op, .. }) => op,
+        Request::ViewStatus { .. } => return "view_status",
+        Request::ViewPlace { .. } => return "view_place",
+        Request::LoadRights { .. } => return "load_rights",
     };
     match op {
         Op::Start { .. } => "start",

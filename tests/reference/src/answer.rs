@@ -1,6 +1,6 @@
 //! "Each call gives status 0 and a value, or a refusal and 0."
 
-/// The refusals of document 01 by their numbers.
+/// The refusals of document 01 and of later requests by their numbers.
 #[derive(Clone, Copy, Debug, PartialEq, Eq)]
 pub enum Refusal {
     /// "lengths are not those of set-up"
@@ -39,6 +39,10 @@ pub enum Refusal {
     GenerationsOut = 17,
     /// "line not a frame"
     Frame = 18,
+    /// "there are not 36 digits or they break these rules"
+    Table = 23,
+    /// "any thread is started"
+    Running = 24,
 }
 
 /// What a call comes to inside the machine: its value or its refusal.

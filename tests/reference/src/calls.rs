@@ -1,11 +1,12 @@
-//! "Calls, checks and yields": ops 01 to 0a, the shown part and its status call.
+//! "Calls, checks and yields": ops 01 to 0a, the shown part and its status call, and the load of a
+//! rights table.
 //!
 //! Each call runs its checks in the order of its row and changes nothing before the last one.
 
 use crate::answer::{refuse_if, Answer, Outcome, Refusal};
 use crate::layout::{Handle, Header, NULL};
 use crate::memory::Memory;
-use crate::rights::{has_right, Kind, Right};
+use crate::rights::{Kind, Right, RightsTable};
 use crate::state::{is_scope, Object, State, AREAS, FIRST_SCOPE};
 use crate::state::{LAST_GENERATION, STACK_ENTRIES, THREADS};
 
@@ -97,6 +98,20 @@ impl State {
         self.usable_object(supplied, kind, object)
     }
 
+    /// A load, one of the "calls without an op", which "are lent no buffer of set-up and skip 1".
+    pub fn load_rights(&mut self, text: &[u8]) -> Answer {
+        self.loaded(text).into()
+    }
+
+    /// 23, 24.
+    fn loaded(&mut self, text: &[u8]) -> Outcome {
+        let table = RightsTable::from_text(text).ok_or(Refusal::Table)?;
+        let started = self.threads.iter().any(|thread| thread.kind.is_some());
+        refuse_if(started, Refusal::Running)?;
+        self.rights = table;
+        Ok(0)
+    }
+
     /// Op 01: 1, 2, 3, 4.
     fn start(&mut self, thread: u64, kind: u64) -> Outcome {
         refuse_if(thread >= THREADS, Refusal::Thread)?;
@@ -141,7 +156,7 @@ impl State {
         let kind = self.check_thread(thread)?;
         let exists = area < AREAS && self.area(area).made;
         refuse_if(!exists, Refusal::Area)?;
-        check_right(kind, area, Right::Enter)?;
+        self.check_right(kind, area, Right::Enter)?;
         let entries = self.thread(thread).stack.len();
         refuse_if(entries >= STACK_ENTRIES, Refusal::StackFull)?;
         if is_scope(area) {
@@ -205,7 +220,7 @@ impl State {
     fn allocate(&mut self, supplied: &mut Memory, thread: u64, slots: u64, data: u64) -> Outcome {
         let kind = self.check_thread(thread)?;
         let current = self.current_area(thread);
-        check_right(kind, current, Right::Allocate)?;
+        self.check_right(kind, current, Right::Allocate)?;
         let area = &mut self.areas[current as usize];
         let needed = u128::from(area.used) + 1 + u128::from(slots) + u128::from(data);
         refuse_if(needed > u128::from(area.size), Refusal::Room)?;
@@ -289,7 +304,7 @@ impl State {
     fn usable_object(&self, supplied: &Memory, kind: Kind, word: u64) -> Result<Object, Refusal> {
         refuse_if(word == NULL, Refusal::Object)?;
         let object = self.resolve(supplied, word).ok_or(Refusal::Object)?;
-        check_right(kind, object.area, Right::Use)?;
+        self.check_right(kind, object.area, Right::Use)?;
         Ok(object)
     }
 
@@ -299,7 +314,7 @@ impl State {
             return Ok(());
         }
         let target = self.resolve(supplied, word).ok_or(Refusal::Target)?;
-        check_right(kind, target.area, Right::Refer)
+        self.check_right(kind, target.area, Right::Refer)
     }
 
     /// Refusal 16; "Null may be stored always."
@@ -307,11 +322,11 @@ impl State {
         let allowed = target == NULL || self.may_hold(holder, Handle::unpack(target).area);
         refuse_if(!allowed, Refusal::Assignment)
     }
-}
 
-/// Refusal 5: "rights table has 0".
-fn check_right(kind: Kind, area: u64, right: Right) -> Result<(), Refusal> {
-    refuse_if(!has_right(kind, area, right), Refusal::Right)
+    /// Refusal 5: "rights table has 0".
+    fn check_right(&self, kind: Kind, area: u64, right: Right) -> Result<(), Refusal> {
+        refuse_if(!self.rights.has_right(kind, area, right), Refusal::Right)
+    }
 }
 
 /// The header, then "sets slots and data to 0, sets the map bit of the header and clears those of

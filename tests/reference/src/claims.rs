@@ -2,9 +2,10 @@
 
 use crate::history::{History, MadeObject};
 use crate::layout::{Handle, NULL};
+use crate::loads::{Load, Loads};
 use crate::machine::Machine;
 use crate::random::Random;
-use crate::rights::{has_right, Right};
+use crate::rights::{Right, RightsTable, DIGITS};
 use crate::state::{is_scope, AREAS, HEAP, IMMORTAL};
 
 /// Nothing, or the words of the first claim that fails.
@@ -274,20 +275,68 @@ pub fn all_offsets_are_exact(machine: &Machine, history: &History) -> Claim {
     Ok(())
 }
 
-/// The shown part and its status call, by what the book knows of the thread and the number.
-pub fn view_is_exact(machine: &Machine, history: &History, thread: u64, word: u64) -> Claim {
+/// The rights of one kind in one class that a load allows: "only 0 and 1, and A only with U".
+const LOADABLE: [&[u8]; 12] = [
+    b"0000", b"0001", b"0010", b"0011", b"0110", b"0111", //
+    b"1000", b"1001", b"1010", b"1011", b"1110", b"1111",
+];
+
+/// The claims on loads.
+pub fn loads_hold(machine: &Machine, loads: &Loads) -> Claim {
+    table_is_the_newest(machine, loads)?;
+    loads.all.iter().try_for_each(load_is_told)
+}
+
+/// "the constant table, which stays in force until a load": the table in force is that of the newest
+/// accepted load, or the built-in one.
+fn table_is_the_newest(machine: &Machine, loads: &Loads) -> Claim {
+    let in_force = machine.state.rights.digits().map(|digit| digit + b'0');
+    claim(in_force == loads.digits(), || {
+        let in_force = in_force.escape_ascii();
+        format!(
+            "in force is {in_force}, not {}",
+            loads.digits().escape_ascii()
+        )
+    })
+}
+
+/// A load is accepted exactly where its text is a table and, by the book before it, no thread was
+/// started. "23 ... first. 24 ... after 23."
+fn load_is_told(load: &Load) -> Claim {
+    let text = load.text.bytes();
+    let is_table = text.len() == DIGITS && text.chunks(4).all(|class| LOADABLE.contains(&class));
+    let status = match (is_table, load.running) {
+        (false, _) => 23,
+        (true, true) => 24,
+        (true, false) => 0,
+    };
+    claim(
+        (load.answer.status, load.answer.value) == (status, 0),
+        || format!("{load:?}, expected {status}"),
+    )
+}
+
+/// The shown part and its status call, by what the book knows of the thread and the number, and by
+/// the table that the list tells.
+pub fn view_is_exact(
+    machine: &Machine,
+    history: &History,
+    table: &RightsTable,
+    thread: u64,
+    word: u64,
+) -> Claim {
     let state = &machine.state;
     let status = state.view_status_of(&machine.supplied, thread, word);
     let length = state.view_of(&machine.supplied, thread, word).len() as u64;
-    let (expected, words) = expected_part(history, thread, word);
+    let (expected, words) = expected_part(history, table, thread, word);
     claim((status.status, length) == (expected, words), || {
         format!("thread {thread} is shown {length} words of {word:x}, {status:?}")
     })?;
     claim(status.value == 0, || "the status call has a value".into())
 }
 
-/// The status and the length, from the book alone: "1, 2, 13, 5".
-fn expected_part(history: &History, thread: u64, word: u64) -> (u64, u64) {
+/// The status and the length, from the book and the table alone: "1, 2, 13, 5".
+fn expected_part(history: &History, table: &RightsTable, thread: u64, word: u64) -> (u64, u64) {
     let Some(kind) = history.kinds.get(thread as usize).copied().flatten() else {
         return (2, 0);
     };
@@ -295,7 +344,7 @@ fn expected_part(history: &History, thread: u64, word: u64) -> (u64, u64) {
     let Some(object) = live.find(|object| object.handle == word) else {
         return (13, 0);
     };
-    if !has_right(kind, object.area, Right::Use) {
+    if !table.has_right(kind, object.area, Right::Use) {
         return (5, 0);
     }
     (0, object.data)

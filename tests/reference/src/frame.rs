@@ -58,7 +58,8 @@ fn number(digits: &[u8]) -> Option<u64> {
     Some(number)
 }
 
-fn digit(byte: u8) -> Option<u64> {
+/// "lower-case hexadecimal"
+pub fn digit(byte: u8) -> Option<u64> {
     match byte {
         b'0'..=b'9' => Some(u64::from(byte - b'0')),
         b'a'..=b'f' => Some(u64::from(byte - b'a') + 10),

@@ -3,7 +3,7 @@
 use crate::answer::{Answer, Refusal};
 use crate::layout::{Handle, Header};
 use crate::memory::{Lengths, Memory};
-use crate::rights::Kind;
+use crate::rights::{Kind, RightsTable};
 
 /// "Area 0 is the heap, 1 immortal, 2 to 63 scopes."
 pub const HEAP: u64 = 0;
@@ -47,6 +47,8 @@ pub struct State {
     pub scratch_taken: u64,
     pub threads: Vec<Thread>,
     pub areas: Vec<Area>,
+    /// The table in force.
+    pub rights: RightsTable,
 }
 
 /// A live object: where it lies and what its header says.
@@ -101,6 +103,7 @@ impl State {
             scratch_taken: 0,
             threads: vec![Thread::default(); THREADS as usize],
             areas,
+            rights: RightsTable::built_in(),
         }
     }
 

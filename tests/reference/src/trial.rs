@@ -4,10 +4,13 @@ use crate::answer::{Answer, Refusal};
 use crate::calls::{Call, Op};
 use crate::claims::{self, Claim};
 use crate::frame;
+use crate::generator::Step;
 use crate::history::History;
+use crate::loads::Loads;
 use crate::machine::Machine;
 use crate::memory::{Lengths, Memory};
 use crate::random::Random;
+use crate::texts::Text;
 use crate::values::Values;
 
 /// Sizes of a set-up: heap, immortal, scratch.
@@ -21,6 +24,7 @@ pub struct Trial {
     pub machine: Machine,
     pub zeroed: Machine,
     pub history: History,
+    pub loads: Loads,
     values: Values,
     random: Random,
 }
@@ -35,6 +39,7 @@ impl Trial {
             machine: Machine::over(heap, immortal, supplied),
             zeroed: Machine::zeroed(heap, immortal, scratch),
             history: History::new(),
+            loads: Loads::default(),
             values: Values::default(),
             random,
         }
@@ -50,20 +55,34 @@ impl Trial {
         self.same_on_zeroed_words(call, answer)?;
         self.answer_is_allowed(call, answer)?;
         self.changes_are_allowed(&before, call, answer)?;
+        self.claims_hold(&before)?;
+        self.beside(call)
+    }
+
+    /// One load of the list, and every claim after it. Its step in the book changes nothing.
+    pub fn load_rights(&mut self, text: Text) -> Claim {
+        let before = self.machine.clone();
+        let answer = self.machine.state.load_rights(text.bytes());
+        let other = self.zeroed.state.load_rights(text.bytes());
+        self.loads.step(&self.history, text, answer);
+        same_answers(answer, other)?;
+        self.table_alone_changes(&before, answer)?;
+        self.claims_hold(&before)
+    }
+
+    fn claims_hold(&mut self, before: &Machine) -> Claim {
         claims::hold(&self.machine, &self.history)?;
-        if self.machine != before {
+        claims::loads_hold(&self.machine, &self.loads)?;
+        if self.machine != *before {
             claims::neighbours_are_exact(&self.machine, &self.history, &mut self.random)?;
         }
-        self.beside(call)
+        Ok(())
     }
 
     /// "the lent words may hold anything": no answer shows a word that no call wrote.
     fn same_on_zeroed_words(&mut self, call: Call, answer: Answer) -> Claim {
         let other = self.zeroed.run(call);
-        if other != answer {
-            return Err(format!("{answer:?}, but {other:?} on zeroed words"));
-        }
-        Ok(())
+        same_answers(answer, other)
     }
 
     /// The value of an accepted load, entry or exit is the one that the calls before it tell.
@@ -108,13 +127,26 @@ impl Trial {
         Ok(())
     }
 
+    /// A load changes the table in force and nothing else; "A refused load leaves the old table."
+    fn table_alone_changes(&self, before: &Machine, answer: Answer) -> Claim {
+        let mut expected = before.clone();
+        if answer.is_accepted() {
+            expected.state.rights = self.machine.state.rights;
+        }
+        if self.machine != expected {
+            return Err(format!("{answer:?}, and more than the table changed"));
+        }
+        Ok(())
+    }
+
     /// The calls of the list that frames cannot make: with other lengths, and the shown part.
     fn beside(&mut self, call: Call) -> Claim {
         let before = self.machine.clone();
         self.refused_by_lengths(call)?;
         let word = self.any_handle();
         let thread = self.random.below(18);
-        claims::view_is_exact(&self.machine, &self.history, thread, word)?;
+        let table = self.loads.table();
+        claims::view_is_exact(&self.machine, &self.history, &table, thread, word)?;
         if self.machine != before {
             return Err("a call beside the list changed something".into());
         }
@@ -163,20 +195,41 @@ fn any_contents(random: &mut Random, lengths: Lengths) -> Memory {
     supplied
 }
 
+fn same_answers(answer: Answer, other: Answer) -> Claim {
+    if other != answer {
+        return Err(format!("{answer:?}, but {other:?} on zeroed words"));
+    }
+    Ok(())
+}
+
 /// Runs every frame of a list; panics with the seed and the call where a claim fails.
 pub fn run_list(seed: u64, sizes: Sizes, list: &[u8]) {
+    let lines = frame::lines(list).into_iter();
+    let steps = lines.map(|line| frame::parse(line).map(Step::Call));
+    run(seed, sizes, steps);
+}
+
+/// Runs a list with loads likewise; yields what was loaded.
+pub fn run_steps(seed: u64, sizes: Sizes, steps: &[Step]) -> Loads {
+    run(seed, sizes, steps.iter().copied().map(Some))
+}
+
+/// Runs steps; none stands for a line that is no frame.
+fn run(seed: u64, sizes: Sizes, steps: impl Iterator<Item = Option<Step>>) -> Loads {
     let mut trial = Trial::new(seed, sizes);
-    for (number, line) in frame::lines(list).into_iter().enumerate() {
-        let Some(call) = frame::parse(line) else {
-            continue;
+    for (number, step) in (1..).zip(steps) {
+        let claim = match step {
+            Some(Step::Call(call)) => trial.call(call),
+            Some(Step::LoadRights(text)) => trial.load_rights(text),
+            None => Ok(()),
         };
-        if let Err(words) = trial.call(call) {
-            let line_number = number + 1;
-            panic!("seed {seed}, sizes {sizes:?}, line {line_number}, {call:x?}: {words}");
+        if let Err(words) = claim {
+            panic!("seed {seed}, sizes {sizes:?}, line {number}, {step:x?}: {words}");
         }
     }
     let last = claims::all_offsets_are_exact(&trial.machine, &trial.history);
     if let Err(words) = last {
         panic!("seed {seed}, sizes {sizes:?}, after the list: {words}");
     }
+    trial.loads
 }

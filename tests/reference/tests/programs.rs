@@ -8,6 +8,8 @@ const GENERATE: &str = env!("CARGO_BIN_EXE_generate");
 const COVERAGE: &str = env!("CARGO_BIN_EXE_coverage");
 const CHECK: &str = env!("CARGO_BIN_EXE_check");
 const DIFFER: &str = env!("CARGO_BIN_EXE_differ");
+const RIGHTS_TABLE: &str = env!("CARGO_BIN_EXE_rights_table");
+const RIGHTS_DIFFER: &str = env!("CARGO_BIN_EXE_rights_differ");
 
 fn run(program: &str, arguments: &[&str]) -> Output {
     let output = Command::new(program).args(arguments).output();
@@ -84,4 +86,37 @@ fn differ_fails_other_programs() {
 #[test]
 fn differ_needs_a_list() {
     assert!(!run(DIFFER, &[REFERENCE, "1", "0", "300"]).status.success());
+}
+
+/// It stops reading where it knows that an input is another.
+#[test]
+fn rights_table_prints_digits_or_nothing() {
+    let printed = |input: &[u8]| {
+        let run = reference::program::run(RIGHTS_TABLE, input.to_vec()).expect("an end");
+        assert!(run.success);
+        String::from_utf8(run.output).expect("digits are text")
+    };
+    let built_in = "111100110000111111111111000011111111";
+    assert_eq!(printed(b"f30\nfff\n0ff"), built_in);
+    assert_eq!(printed(b"f30\nfff\n0ff\n"), built_in);
+    assert_eq!(printed(b"f30\nfff\n0ff\n\n"), "");
+    assert_eq!(printed(&[0; 1_000_000]), "");
+}
+
+#[test]
+fn rights_differ_passes_the_same_program() {
+    let output = run(RIGHTS_DIFFER, &[RIGHTS_TABLE, "1"]);
+    assert!(output.status.success());
+    assert!(last_line(&output).ends_with(" passed, 0 failed"));
+}
+
+#[test]
+fn rights_differ_fails_other_programs() {
+    for program in ["cat", "true", "/no/such/program"] {
+        let output = run(RIGHTS_DIFFER, &[program, "1"]);
+        assert!(!output.status.success(), "{program}");
+        let last = last_line(&output);
+        assert!(last.contains(" passed, ") && !last.ends_with(" 0 failed"));
+    }
+    assert!(!run(RIGHTS_DIFFER, &[RIGHTS_TABLE]).status.success());
 }

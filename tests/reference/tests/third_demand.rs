@@ -3,15 +3,17 @@
 mod common;
 
 use common::REAL_TIME;
-use reference::answer::Answer;
+use reference::answer::{Answer, Refusal};
 use reference::calls::{Call, Op};
 use reference::claims;
 use reference::generator;
 use reference::history::History;
+use reference::loads::{Load, Loads};
 use reference::machine::Machine;
 use reference::random::Random;
-use reference::rights::Kind;
-use reference::trial::{run_list, Trial, FRAME_SIZES};
+use reference::rights::{Kind, RightsTable, BUILT_IN, DIGITS};
+use reference::texts::Text;
+use reference::trial::{run_list, run_steps, Trial, FRAME_SIZES};
 
 #[test]
 fn generated_lists_hold() {
@@ -20,6 +22,30 @@ fn generated_lists_hold() {
         run_list(seed, FRAME_SIZES, &list);
         run_list(seed, (57, 130, 777), &list);
     }
+}
+
+/// Lists with loads: of each status, with and without started threads, with and without objects.
+#[test]
+fn generated_lists_with_loads_hold() {
+    let mut all = Vec::new();
+    for seed in 1..=30 {
+        let steps = generator::steps(seed, 150);
+        all.extend(run_steps(seed, FRAME_SIZES, &steps).all);
+        all.extend(run_steps(seed, (57, 130, 777), &steps).all);
+    }
+    let came = |status, running, objects| {
+        let told = |load: &Load| (load.answer.status, load.running, load.objects);
+        all.iter()
+            .any(|load| told(load) == (status, running, objects))
+    };
+    for objects in [false, true] {
+        assert!(came(0, false, objects));
+        assert!(came(23, false, objects) && came(23, true, objects));
+        assert!(came(24, true, objects));
+    }
+    let accepted = all.iter().filter(|load| load.answer.is_accepted());
+    let others = accepted.filter(|load| load.text.bytes() != BUILT_IN);
+    assert!(others.count() > 30);
 }
 
 #[test]
@@ -204,10 +230,11 @@ fn sees_a_dead_handle_accepted() {
 #[test]
 fn sees_a_view_of_another_length() {
     let (machine, mut history, outer, _) = nested();
-    let claim = claims::view_is_exact(&machine, &history, 0, outer);
+    let table = RightsTable::built_in();
+    let claim = claims::view_is_exact(&machine, &history, &table, 0, outer);
     assert_eq!(claim, Ok(()));
     history.objects[0].data = 2;
-    let claim = claims::view_is_exact(&machine, &history, 0, outer);
+    let claim = claims::view_is_exact(&machine, &history, &table, 0, outer);
     assert!(claim.is_err());
 }
 
@@ -240,6 +267,76 @@ fn trial_sees_a_15_of_op_08() {
     let op = Op::Load { object, slot };
     let words = trial.call(Call { thread: 0, op });
     assert_eq!(words, Err("op 08 yields 15".into()));
+}
+
+const ALL_RIGHTS: [u8; DIGITS] = [b'1'; DIGITS];
+
+/// One load of a table of all rights, with an answer and a book before it that has a thread or not.
+fn one_load(answer: Answer, running: bool) -> Loads {
+    let mut history = History::new();
+    if running {
+        history.rows[3] = Some(vec![]);
+    }
+    let mut loads = Loads::default();
+    loads.step(&history, Text::new(&ALL_RIGHTS), answer);
+    loads
+}
+
+#[test]
+fn sees_another_table_in_force() {
+    let mut machine = Machine::for_frames();
+    assert_eq!(claims::loads_hold(&machine, &Loads::default()), Ok(()));
+    // A refused load must leave the old table, an accepted one must not.
+    let refused = one_load(Answer::refused(Refusal::Running), true);
+    let accepted = one_load(Answer::accepted(0), false);
+    assert_eq!(claims::loads_hold(&machine, &refused), Ok(()));
+    let words = claims::loads_hold(&machine, &accepted).expect_err("another table");
+    assert!(words.contains("in force is 111100110000"), "{words}");
+    machine.state.rights = accepted.table();
+    assert_eq!(claims::loads_hold(&machine, &accepted), Ok(()));
+    assert!(claims::loads_hold(&machine, &refused).is_err());
+    assert!(claims::loads_hold(&machine, &Loads::default()).is_err());
+}
+
+#[test]
+fn sees_a_load_beside_a_thread() {
+    let mut machine = Machine::for_frames();
+    let loads = one_load(Answer::accepted(0), true);
+    machine.state.rights = loads.table();
+    let words = claims::loads_hold(&machine, &loads).expect_err("a started thread");
+    assert!(words.contains("expected 24"), "{words}");
+}
+
+#[test]
+fn sees_a_load_refused_without_a_reason() {
+    let machine = Machine::for_frames();
+    for refusal in [Refusal::Table, Refusal::Running] {
+        let loads = one_load(Answer::refused(refusal), false);
+        let words = claims::loads_hold(&machine, &loads).expect_err("no reason");
+        assert!(words.contains("expected 0"), "{words}");
+    }
+}
+
+/// A view that the table in force allows and the list's does not.
+#[test]
+fn sees_a_view_by_another_table() {
+    let (mut machine, history, outer, _) = nested();
+    machine.state.threads[0].kind = Some(Kind::Ordinary);
+    let claim = claims::view_is_exact(&machine, &history, &RightsTable::built_in(), 0, outer);
+    assert!(claim.is_err());
+}
+
+/// The trial sees a load that goes its own way: here the machine's threads are not the book's.
+#[test]
+fn trial_sees_a_load_that_is_not_told() {
+    let mut trial = Trial::new(1, FRAME_SIZES);
+    let op = Op::Start { kind: REAL_TIME };
+    assert_eq!(trial.call(Call { thread: 0, op }), Ok(()));
+    for machine in [&mut trial.machine, &mut trial.zeroed] {
+        machine.state.threads[0].kind = None;
+    }
+    let words = trial.load_rights(Text::new(BUILT_IN)).expect_err("it runs");
+    assert!(words.contains("thread 0 has kind"), "{words}");
 }
 
 /// The book is fed arguments and answers alone.

@@ -1,9 +1,10 @@
 //! `check SEED COUNT [LISTS]` runs generated lists with every claim of the third demand tried after
-//! each call, on the frame reader's sizes and, for odd seeds, on small uneven ones too. A claim that
-//! fails panics with the seed and the call.
+//! each call, on the frame reader's sizes and, for odd seeds, on small uneven ones too; each seed's
+//! list of frames, and a list with loads between the calls. A claim that fails panics with the seed
+//! and the call.
 
 use reference::random::Random;
-use reference::trial::{run_list, Sizes, FRAME_SIZES};
+use reference::trial::{run_list, run_steps, Sizes, FRAME_SIZES};
 use reference::{arguments, generator};
 
 const USAGE: &str = "check SEED COUNT [LISTS]";
@@ -20,9 +21,12 @@ fn main() {
     }
     for seed in first..first + lists {
         let list = generator::list(seed, count);
+        let steps = generator::steps(seed, count);
         run_list(seed, FRAME_SIZES, &list);
+        run_steps(seed, FRAME_SIZES, &steps);
         if seed % 2 == 1 {
             run_list(seed, uneven_sizes(seed), &list);
+            run_steps(seed, uneven_sizes(seed), &steps);
         }
     }
     println!("{lists} passed, 0 failed");

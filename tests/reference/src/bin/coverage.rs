@@ -9,7 +9,7 @@ use reference::calls::{Call, Op};
 use reference::frame;
 use reference::layout::{Handle, NULL};
 use reference::machine::Machine;
-use reference::rights::{has_right, Right};
+use reference::rights::Right;
 use reference::state::{is_scope, State, AREAS, HEAP, IMMORTAL, STACK_ENTRIES, THREADS};
 use reference::{arguments, generator};
 
@@ -228,7 +228,7 @@ impl Coverage {
         let Some(kind) = state.thread(call.thread).kind else {
             return;
         };
-        let usable = has_right(kind, area_of(object), Right::Use);
+        let usable = state.rights.has_right(kind, area_of(object), Right::Use);
         self.note(op == 0x07 && !usable, "07 gives 5 for U");
         self.note(op == 0x07 && usable, "07 gives 5 for R");
         let forbidden = !state.may_hold(area_of(object), area_of(target));

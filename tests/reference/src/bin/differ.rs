@@ -1,18 +1,11 @@
 //! `differ PROGRAM FIRST_SEED LISTS COUNT` feeds generated lists to PROGRAM and compares its answers
 //! byte for byte with the library's.
 
-use std::io::{self, Read, Write};
-use std::process::{exit, ChildStdout, Command, Stdio};
-use std::sync::mpsc;
-use std::thread;
-use std::time::Duration;
+use std::process::exit;
 
-use reference::{arguments, frame, generator};
+use reference::{arguments, frame, generator, program};
 
 const USAGE: &str = "differ PROGRAM FIRST_SEED LISTS COUNT";
-
-/// How long a program may take for one list.
-const LIMIT: Duration = Duration::from_secs(60);
 
 fn main() {
     let words: Vec<String> = std::env::args().skip(1).collect();
@@ -47,48 +40,15 @@ fn run_lists(program: &str, first: u64, lists: u64, count: u64) -> u64 {
 fn compare(program: &str, seed: u64, count: u64) -> Result<(), String> {
     let list = generator::list(seed, count);
     let expected = frame::answers(&list);
-    let (given, success) = answers_of(program, list.clone())
+    let run = program::run(program, list.clone())
         .map_err(|error| format!("{program} did not run to its end: {error}"))?;
-    if given != expected {
-        return Err(first_difference(&list, &expected, &given));
+    if run.output != expected {
+        return Err(first_difference(&list, &expected, &run.output));
     }
-    if !success {
+    if !(run.success && run.all_read) {
         return Err("the answers are right, but the program failed at its end".into());
     }
     Ok(())
-}
-
-/// What the program writes for a list, and whether it ended well. The list is written and the answers
-/// are read by threads of their own, so that neither side waits for the other.
-fn answers_of(program: &str, list: Vec<u8>) -> io::Result<(Vec<u8>, bool)> {
-    let mut child = Command::new(program)
-        .stdin(Stdio::piped())
-        .stdout(Stdio::piped())
-        .spawn()?;
-    let mut input = child.stdin.take().expect("standard input is a pipe");
-    let output = child.stdout.take().expect("standard output is a pipe");
-    // A program that stops reading shows in its answers.
-    let writer = thread::spawn(move || input.write_all(&list).is_ok());
-    let given = read_within(output, LIMIT);
-    if given.is_none() {
-        child.kill()?;
-    }
-    let status = child.wait()?;
-    let all_read = writer.join().unwrap_or(false);
-    let given = given.ok_or_else(|| io::Error::other(format!("no end after {LIMIT:?}")))?;
-    Ok((given, status.success() && all_read))
-}
-
-/// All that comes before the end, if the end comes in time.
-fn read_within(mut output: ChildStdout, limit: Duration) -> Option<Vec<u8>> {
-    let (sender, receiver) = mpsc::channel();
-    thread::spawn(move || {
-        let mut given = Vec::new();
-        // What was read before an error shows as a difference.
-        let _ = output.read_to_end(&mut given);
-        sender.send(given)
-    });
-    receiver.recv_timeout(limit).ok()
 }
 
 /// The first line whose answers differ: the line, the expected and the given answer.
@@ -113,14 +73,6 @@ fn first_difference(list: &[u8], expected: &[u8], given: &[u8]) -> String {
     }
 }
 
-/// Bytes as text, cut where they are long.
 fn quoted(bytes: Option<&[u8]>) -> String {
-    let Some(bytes) = bytes else {
-        return "(nothing)".into();
-    };
-    let start = bytes[..bytes.len().min(80)].escape_ascii();
-    if bytes.len() > 80 {
-        return format!("{start}... ({} bytes)", bytes.len());
-    }
-    start.to_string()
+    bytes.map_or("(nothing)".into(), program::quoted)
 }

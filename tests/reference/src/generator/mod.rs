@@ -1,9 +1,12 @@
 //! Lists of lines from a seed. The generator runs the machine as it goes, so that most frames mean
 //! something to the machine that will read them.
 
+mod loads;
 mod objects;
 mod scopes;
 mod threads;
+
+pub use loads::{steps, Step};
 
 use crate::answer::Answer;
 use crate::calls::{Call, Op};
@@ -100,9 +103,13 @@ impl Generator {
         if self.random.percent(self.mood.noise()) {
             return spoil(&mut self.random, &line);
         }
+        self.run(call);
+        line
+    }
+
+    fn run(&mut self, call: Call) {
         let answer = self.machine.run(call);
         self.remember(call, answer);
-        line
     }
 
     fn follow_mood(&mut self) {

@@ -105,6 +105,10 @@ impl Bench {
         self.run(thread, Op::Read { object, index })
     }
 
+    pub fn load_rights(&mut self, text: impl AsRef<[u8]>) -> Pair {
+        pair(self.machine.state.load_rights(text.as_ref()))
+    }
+
     pub fn view(&self, thread: u64, object: u64) -> &[u64] {
         let machine = &self.machine;
         machine.state.view_of(&machine.supplied, thread, object)
