@@ -1,8 +1,8 @@
 -- Laws of the generator: where a digit stands, what a source has, and how the digits of a table are put class by class.
 -- Assumes nothing.
-use Prim.Native.Nat.{ℕ, zero, suc, _+_, _*_, _/_, _%_, _≤_, _<_}
+use Prim.Native.Nat.{ℕ, suc, _+_, _*_, _/_, _%_, _≤_, _<_}
 use native.Mathlib.Omega.{arith}
-use mathlib.Core.Bool.{true, _&&_, _||_}
+use mathlib.Core.Bool.{true, _&&_}
 use mathlib.Core.List.{List, [], _∷_, _++_}
 use mathlib.Core.Logic.{⊎-elim}
 use mathlib.Core.Path.{_≡_, refl, ap, _∙_}
@@ -15,6 +15,7 @@ use Rattle.layout.specs.Below.{allBelow, all-each}
 use Rattle.hexadecimal.specs.Digit.{isDigit, digitValue}
 use Rattle.rights.specs.Rights.{digit0, tableSize, textOf}
 use Rattle.generator.specs.Generator.{classCount, places, digitPlace, isLineFeed, isEnded, allDigits, isSource, valuesOf}
+use Rattle.generator.specs.GeneratorLaws.{table-length}
 
 -- the place of a digit by its line and its place there; computed for all nine
 pub place-is : (g : ℕ) → g < classCount → g / 3 * 4 + g % 3 ≡ digitPlace g
@@ -93,8 +94,7 @@ module _ (l : List ℕ) where
 
   -- the digits fill the table
   whole : length (textOf (valuesOf l)) ≤ tableSize
-  unfolding textOf valuesOf places
-  whole = omega arith
+  whole = omega (arith, table-length l)
 
   pub whole-taken : take tableSize (textOf (valuesOf l)) ≡ textOf (valuesOf l)
   whole-taken = take-all tableSize (textOf (valuesOf l)) whole
