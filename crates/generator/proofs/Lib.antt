@@ -1,0 +1,3 @@
+-- What the proofs of the generator cite, and samples of what it prints.
+pub mod Laws
+pub mod Samples
