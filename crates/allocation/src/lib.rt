@@ -68,7 +68,7 @@ fn check_allocate(words: &Words, bytes: &Bytes, t: u64, slots: u64, data_words: 
     }
     let area = callers::top_entry(words, bytes, t as usize).area;
     let may = callers::has_right(words, bytes, t as usize, Right::Allocate, area as u64);
-    let x = tables::area_at(words, area as usize);
+    let x = held_areas::area_at(words, area as usize);
     let room = x.size - x.used;
     if !may {
         return 5;
@@ -99,7 +99,7 @@ fn apply_allocate(
     ensures { λ r. ⌜ MakesObject r words bytes permanent scratch map t slots data_words ⌝ }
 {
     let area = callers::top_entry(words, bytes, t).area as u64;
-    let x = tables::area_at(words, area as usize);
+    let x = held_areas::area_at(words, area as usize);
     let used = x.used + 1 + slots + data_words;
     let next = Area {
         start: x.start,
@@ -110,7 +110,7 @@ fn apply_allocate(
         parent: x.parent,
         depth: x.depth,
     };
-    tables::put_area(words, area as usize, next);
+    held_areas::put_area(words, area as usize, next);
     let at = (x.start + x.used) as usize;
     let bit = objects::bit_index(permanent.len(), area, at);
     mark_object(map, bit, (slots + data_words) as usize);

@@ -35,8 +35,8 @@ fn check_make(words: &Words, bytes: &Bytes, t: u64, q: u64, r: u64) -> u64
     if 64 <= q {
         return 6;
     }
-    let made = tables::is_made(tables::area_at(words, q as usize), q);
-    let left = tables::lengths_at(words).scratch - tables::taken_at(words);
+    let made = held_areas::is_made(held_areas::area_at(words, q as usize), q);
+    let left = held_lengths::lengths_at(words).scratch - held_lengths::taken_at(words);
     let lacking = no_room(left, r);
     if made {
         return 7;
@@ -62,10 +62,10 @@ fn apply_make(words: &mut Words, bytes: &Bytes, q: usize, r: u64)
     requires { ⌜ Usable words bytes × (q < 64) × (stateIn words bytes .taken + r ≤ stateIn words bytes .lengths .scratch) ⌝ }
     ensures { λ u. ⌜ Leaves words bytes (makeState (before words bytes) q r) ⌝ }
 {
-    let taken = tables::taken_at(words);
-    let x = tables::area_at(words, q);
-    tables::put_area(words, q, made(x, taken, r));
-    tables::put_taken(words, taken + r);
+    let taken = held_lengths::taken_at(words);
+    let x = held_areas::area_at(words, q);
+    held_areas::put_area(words, q, made(x, taken, r));
+    held_lengths::put_taken(words, taken + r);
 }
 
 // After refusal 1.

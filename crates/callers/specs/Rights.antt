@@ -12,7 +12,7 @@ use Rattle.rights.specs.Rights.{classOf, digit1, tableSize, placeOf, allows}
 use Rattle.rights.specs.Loading.{allows-at}
 use Rattle.rights.specs.declared.Right.{Right}
 use Rattle.model.specs.Checks.{hasRight}
-use Rattle.tables.specs.declared.thread.ThreadWords.{ThreadWords}
+use Rattle.tables.specs.declared.ThreadWords.{ThreadWords}
 use Rattle.tables.specs.Decode.{stateOf, threadRecord, rightOf}
 use Rattle.tables.specs.Laws.{kind-read, right-read}
 

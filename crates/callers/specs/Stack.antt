@@ -8,8 +8,8 @@ use lib.ListN.{getD}
 use Rattle.layout.specs.Stack.{down}
 use Rattle.model.specs.State.{Thread, threadAt, entriesOf, stackAt, current, innermost}
 use Rattle.model.specs.Invariant.{ThreadGood}
-use Rattle.tables.specs.declared.thread.ThreadWords.{ThreadWords}
-use Rattle.tables.specs.declared.thread.Entry.{Entry}
+use Rattle.tables.specs.declared.ThreadWords.{ThreadWords}
+use Rattle.tables.specs.declared.Entry.{Entry}
 use Rattle.tables.specs.Decode.{stateOf, threadRecord, entryRecord}
 use Rattle.tables.specs.Laws.{len-read, entry-read, inner-read}
 use Rattle.tables.specs.Contract.{Ready}

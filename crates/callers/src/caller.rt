@@ -15,7 +15,7 @@ pub fn lengths_fit(
 ) -> bool
     ensures { λ r. ⌜ r ≡ fits (before words bytes) (supplied permanent scratch map) ⌝ }
 {
-    let own = tables::lengths_at(words);
+    let own = held_lengths::lengths_at(words);
     if permanent.len() as u64 != own.permanent {
         return false;
     }
@@ -32,7 +32,7 @@ pub fn check_thread(words: &Words, bytes: &Bytes, t: u64) -> u64
     if 16 <= t {
         return 2; // above 15
     }
-    if tables::thread_at(words, t as usize).kind == 0 {
+    if held_threads::thread_at(words, t as usize).kind == 0 {
         return 2; // not started
     }
     0

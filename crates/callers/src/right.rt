@@ -12,12 +12,12 @@ pub fn has_right(words: &Words, bytes: &Bytes, t: usize, right: Right, area: u64
     requires { ⌜ t < 16 ⌝ }
     ensures { λ r. ⌜ r ≡ hasRight (before words bytes) t right area ⌝ }
 {
-    let kind = tables::thread_at(words, t).kind;
+    let kind = held_threads::thread_at(words, t).kind;
     if kind == 0 {
         return false;
     }
     if 3 < kind {
         return false;
     }
-    tables::right_at(bytes, rights::place(kind, area, right)) == b'1'
+    held_rights::right_at(bytes, rights::place(kind, area, right)) == b'1'
 }

@@ -15,9 +15,9 @@ pub fn top_entry(words: &Words, bytes: &Bytes, t: usize) -> Entry
     requires { ⌜ Usable words bytes × (t < 16) ⌝ }
     ensures { λ r. ⌜ r ≡ topEntryOf (stackAt (before words bytes) t) ⌝ }
 {
-    let len = tables::thread_at(words, t).len as usize;
+    let len = held_threads::thread_at(words, t).len as usize;
     if len == 0 {
         return Entry { area: 0, inner: 0 };
     }
-    tables::entry_at(bytes, t, Place(len - 1))
+    held_threads::entry_at(bytes, t, Place(len - 1))
 }

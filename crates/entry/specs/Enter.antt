@@ -17,7 +17,7 @@ use Rattle.model.specs.Checks.{called, hasRight}
 use Rattle.model.specs.Scopes.{lastGeneration, otherParent, generationsOut, enterRest}
 use Rattle.model.specs.Invariant.{Good}
 use Rattle.model.proofs.Accepted.{Called, EnterOk, enter-ok}
-use Rattle.tables.specs.declared.thread.ThreadWords.{ThreadWords}
+use Rattle.tables.specs.declared.ThreadWords.{ThreadWords}
 use Rattle.tables.specs.Decode.{stateOf, areaRecord, threadRecord}
 use Rattle.tables.specs.Laws.{area-read, len-read}
 use Rattle.callers.specs.Caller.{thread-refused, called-rest}

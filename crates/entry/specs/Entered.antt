@@ -13,7 +13,7 @@ use Rattle.layout.specs.Display.{extendedRow}
 use Rattle.model.specs.declared.Area.{Area}
 use Rattle.model.specs.State.{State, areaAt, threadAt, withArea, withRow, stackAt, innermost, isScope}
 use Rattle.model.specs.Scopes.{reentered, opened, enteredArea, pushed, enterState, enterValue}
-use Rattle.tables.specs.declared.thread.ThreadWords.{ThreadWords}
+use Rattle.tables.specs.declared.ThreadWords.{ThreadWords}
 use Rattle.tables.specs.Decode.{stateOf, areaRecord, putArea, threadRecord, putThread, putEntry, displayRow, putRow, Shaped, Holds}
 use Rattle.tables.specs.Laws.{area-read, row-read, kind-read, len-read, length-row, state-area, state-row, state-push}
 use Rattle.entry.specs.Enter.{pushedState}

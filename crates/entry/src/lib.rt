@@ -29,7 +29,7 @@ const LAST_GENERATION: u64 = 17592186044415;
 fn check_entry(allowed: bool, len: u64, inner: u64, x: Area, q: u64) -> u64
     ensures { λ n. ⌜ n ≡ entryRest allowed len inner x q ⌝ }
 {
-    if !tables::is_made(x, q) {
+    if !held_areas::is_made(x, q) {
         return 6;
     }
     if !allowed {
@@ -59,8 +59,8 @@ fn check_there(words: &Words, bytes: &Bytes, t: usize, q: u64, inner: u8) -> u64
     ensures { λ n. ⌜ n ≡ thereRest (before words bytes) t q inner ⌝ }
 {
     let allowed = callers::has_right(words, bytes, t, Right::Enter, q);
-    let len = tables::thread_at(words, t).len;
-    let x = tables::area_at(words, q as usize);
+    let len = held_threads::thread_at(words, t).len;
+    let x = held_areas::area_at(words, q as usize);
     check_entry(allowed, len, inner as u64, x, q)
 }
 
@@ -97,8 +97,8 @@ fn put_display(bytes: &mut Bytes, q: usize, p: usize, depth: Depth)
     requires { ⌜ (q < 64) × (p < 64) × (depth .0 < 32) ⌝ }
     ensures { λ u. ⌜ now (bytes .exit) ≡ putRow (now (bytes .entry)) q (extendedRow (displayRow (now (bytes .entry)) p) (depth .0) q) ⌝ }
 {
-    let row = tables::row_at(bytes, p);
-    tables::put_row(bytes, q, layout::display::extended(row, depth, q as u8));
+    let row = held_displays::row_at(bytes, p);
+    held_displays::put_row(bytes, q, layout::display::extended(row, depth, q as u8));
 }
 
 // Area q is entered where p is the innermost scope; its generation after that. The area is written before
@@ -108,17 +108,17 @@ fn enter_area(words: &mut Words, bytes: &mut Bytes, q: usize, p: usize) -> u64
     ensures value { λ r. ⌜ r ≡ enterValue (before words bytes) q ⌝ }
     ensures state { λ r. ⌜ Leaves words bytes (enteredArea (before words bytes) q p) ⌝ }
 {
-    let x = tables::area_at(words, q);
+    let x = held_areas::area_at(words, q);
     if q < 2 {
         return x.generation;
     }
     if 0 < x.count {
-        tables::put_area(words, q, reentered_area(x));
+        held_areas::put_area(words, q, reentered_area(x));
         return x.generation;
     }
-    let depth = Depth(tables::area_at(words, p).depth as usize);
+    let depth = Depth(held_areas::area_at(words, p).depth as usize);
     let y = opened_area(x, p as u64, depth);
-    tables::put_area(words, q, y);
+    held_areas::put_area(words, q, y);
     put_display(bytes, q, p, depth);
     y.generation
 }
@@ -141,11 +141,11 @@ fn push(words: &mut Words, bytes: &mut Bytes, t: usize, q: u8, inner: u8)
     requires { ⌜ Shaped (now words) (now bytes) × (t < 16) × (threadAt (stateIn words bytes) t .len < 32) ⌝ }
     ensures { λ u. ⌜ Leaves words bytes (pushedState (before words bytes) t q inner) ⌝ }
 {
-    let h = tables::thread_at(words, t);
+    let h = held_threads::thread_at(words, t);
     let len = h.len + 1;
-    tables::put_thread(words, t, ThreadWords { kind: h.kind, len });
+    held_threads::put_thread(words, t, ThreadWords { kind: h.kind, len });
     let top = Place(h.len as usize);
-    tables::put_entry(bytes, t, top, Entry { area: q, inner });
+    held_threads::put_entry(bytes, t, top, Entry { area: q, inner });
 }
 
 // ---- the call

@@ -14,7 +14,7 @@ use Rattle.model.specs.State.{State, areaAt, threadAt, withArea, withThread, st
 use Rattle.model.specs.Checks.{called}
 use Rattle.model.specs.Scopes.{exitRest, left, leftArea, popped, exitState, exitValue}
 use Rattle.model.proofs.Accepted.{Called, ExitOk, exit-ok}
-use Rattle.tables.specs.declared.thread.ThreadWords.{ThreadWords}
+use Rattle.tables.specs.declared.ThreadWords.{ThreadWords}
 use Rattle.tables.specs.Decode.{stateOf, areaRecord, putArea, threadRecord, putThread, Shaped, Holds}
 use Rattle.tables.specs.Laws.{area-read, kind-read, len-read, state-area, state-thread}
 use Rattle.callers.specs.Caller.{thread-refused, called-rest}

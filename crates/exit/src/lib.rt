@@ -20,7 +20,7 @@ fn check_exit(words: &Words, bytes: &Bytes, t: u64) -> u64
     if refusal != 0 {
         return refusal;
     }
-    if tables::thread_at(words, t as usize).len == 0 {
+    if held_threads::thread_at(words, t as usize).len == 0 {
         return 11;
     }
     0
@@ -56,8 +56,8 @@ fn leave_area(words: &mut Words, bytes: &Bytes, q: usize) -> u64
     if q < 2 {
         return 0;
     }
-    let y = left_area(tables::area_at(words, q));
-    tables::put_area(words, q, y);
+    let y = left_area(held_areas::area_at(words, q));
+    held_areas::put_area(words, q, y);
     y.count
 }
 
@@ -66,9 +66,9 @@ fn pop(words: &mut Words, bytes: &Bytes, t: usize)
     requires { ⌜ Shaped (now words) (now bytes) × (t < 16) × (0 < threadAt (stateIn words bytes) t .len) ⌝ }
     ensures { λ u. ⌜ Leaves words bytes (withThread (before words bytes) t (popped (threadAt (before words bytes) t))) ⌝ }
 {
-    let h = tables::thread_at(words, t);
+    let h = held_threads::thread_at(words, t);
     let len = h.len - 1;
-    tables::put_thread(words, t, ThreadWords { kind: h.kind, len });
+    held_threads::put_thread(words, t, ThreadWords { kind: h.kind, len });
 }
 
 fn apply_exit(words: &mut Words, bytes: &Bytes, t: usize) -> u64

@@ -17,7 +17,7 @@ use Rattle.model.specs.Configuration.{anyStarted, loadRightsStatus, loadRightsS
 use Rattle.model.specs.Calls.{rightsTable, loadRights}
 use Rattle.model.proofs.Accepted.{LoadRightsOk, load-rights-ok}
 use Rattle.model.proofs.KeepsConfiguration.{good-load}
-use Rattle.tables.specs.declared.thread.ThreadWords.{ThreadWords}
+use Rattle.tables.specs.declared.ThreadWords.{ThreadWords}
 use Rattle.tables.specs.Decode.{stateOf, threadRecord, putRights}
 use Rattle.tables.specs.Laws.{kind-read, state-rights}
 use Rattle.tables.specs.Contract.{Ready, plain, Answered}

@@ -60,7 +60,7 @@ fn any_started(words: &Words, bytes: &Bytes) -> bool
     let mut some = false;
     let mut t = 0;
     while t < 16 {
-        some = some | (0 < tables::thread_at(words, t).kind);
+        some = some | (0 < held_threads::thread_at(words, t).kind);
         t += 1;
     }
     some
@@ -87,7 +87,7 @@ pub fn load_rights(words: &Words, bytes: &mut Bytes, text: &[u8]) -> Answer
 {
     let refusal = check_load(words, bytes, text);
     if refusal == 0 {
-        tables::put_rights(bytes, text);
+        held_rights::put_rights(bytes, text);
     }
     let value = 0; // none is named
     Answer {

@@ -56,7 +56,7 @@ pub fn lookup(
 {
     let area = handle::area(handle);
     let offset = handle::offset(handle);
-    let x = tables::area_at(words, area as usize);
+    let x = held_areas::area_at(words, area as usize);
     if handle::generation(handle) != x.generation {
         return Found::Nothing;
     }

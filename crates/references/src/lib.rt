@@ -25,12 +25,12 @@ fn may_refer(words: &Words, bytes: &Bytes, object: u64, target: u64) -> bool
     if target < 2 {
         return true;
     }
-    let depth = tables::area_at(words, target as usize).depth;
-    let deepest = tables::area_at(words, object as usize).depth;
+    let depth = held_areas::area_at(words, target as usize).depth;
+    let deepest = held_areas::area_at(words, object as usize).depth;
     if deepest < depth {
         return false;
     }
-    tables::row_holds(bytes, object as usize, Depth(depth as usize), target as u8)
+    held_displays::row_holds(bytes, object as usize, Depth(depth as usize), target as u8)
 }
 
 // Refusals 15 and 5: a target or a loaded word. Null always passes.

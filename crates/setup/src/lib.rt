@@ -63,9 +63,9 @@ fn first_words(h: u64, i: u64, n: Lengths) -> Words
     ensures { λ r. ⌜ r ≡ firstWords h i n ⌝ }
 {
     let mut words = [0u64; WORDS];
-    tables::put_area(&mut words, 0, standing_area(0, h));
-    tables::put_area(&mut words, 1, standing_area(h, i));
-    tables::put_lengths(&mut words, n);
+    held_areas::put_area(&mut words, 0, standing_area(0, h));
+    held_areas::put_area(&mut words, 1, standing_area(h, i));
+    held_lengths::put_lengths(&mut words, n);
     words
 }
 
@@ -94,7 +94,7 @@ fn first_bytes() -> Bytes
 {
     let mut bytes = [0u8; BYTES];
     let table = rights::built_in();
-    tables::put_rights(&mut bytes, &table);
+    held_rights::put_rights(&mut bytes, &table);
     bytes
 }
 

@@ -8,8 +8,8 @@ use Rattle.rights.specs.Rights.{tableSize}
 use Rattle.model.specs.declared.Area.{Area}
 use Rattle.model.specs.declared.Lengths.{Lengths}
 use Rattle.model.specs.State.{Thread, State}
-use Rattle.tables.specs.declared.thread.ThreadWords.{ThreadWords}
-use Rattle.tables.specs.declared.thread.Entry.{Entry}
+use Rattle.tables.specs.declared.ThreadWords.{ThreadWords}
+use Rattle.tables.specs.declared.Entry.{Entry}
 use Rattle.tables.specs.Cut.{cut, put, each}
 
 -- ---- where the words lie: the areas, the threads, the three lengths, the scratch words taken

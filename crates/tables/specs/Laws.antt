@@ -15,8 +15,8 @@ use Rattle.rights.specs.Rights.{tableSize}
 use Rattle.model.specs.declared.Area.{Area}
 use Rattle.model.specs.declared.Lengths.{Lengths}
 use Rattle.model.specs.State.{State, Thread, noArea, noThread, areaAt, rowAt, threadAt, withArea, withRow, withThread, withTaken, withRights}
-use Rattle.tables.specs.declared.thread.ThreadWords.{ThreadWords}
-use Rattle.tables.specs.declared.thread.Entry.{Entry}
+use Rattle.tables.specs.declared.ThreadWords.{ThreadWords}
+use Rattle.tables.specs.declared.Entry.{Entry}
 use Rattle.tables.specs.Cut.{cut, put, each, from, getD-cut, length-cut, length-put, cut-put, cut-put-other, getD-put-other, cut-set, cut-set-other, each-at, each-set, each-same}
 use Rattle.tables.specs.Decode.{areaCount, threadCount, areaWords, areaIndex, threadsAt, threadWords, threadIndex, lengthsAt, takenAt, wordCount, rowBytes, rowIndex, innerRows, displayRows, rowCount, rightsAt, byteCount}
 use Rattle.tables.specs.Decode.{areaRecord, spareOf, putArea, lengthsRecord, putLengths, takenOf, putTaken, byteRow, putByteRow, byteOf, putByte, threadRecord, putThread, entryRecord, putEntry, threadOf, displayRow, putRow, rightsOf, rightOf, putRights, stateOf, Shaped, Holds}

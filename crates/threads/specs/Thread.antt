@@ -12,7 +12,7 @@ use Rattle.model.specs.Checks.{called}
 use Rattle.model.specs.Threads.{startRest, startState, startChange, endRest, endState, endChange}
 use Rattle.model.proofs.Accepted.{Called, start-ok, end-ok}
 use Rattle.model.proofs.KeepsThreads.{good-start, good-end}
-use Rattle.tables.specs.declared.thread.ThreadWords.{ThreadWords}
+use Rattle.tables.specs.declared.ThreadWords.{ThreadWords}
 use Rattle.tables.specs.Decode.{stateOf, threadRecord, putThread, Shaped, Holds}
 use Rattle.tables.specs.Laws.{len-read, state-thread}
 use Rattle.tables.specs.Contract.{Ready, Changed}

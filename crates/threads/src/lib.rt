@@ -16,8 +16,8 @@ fn put_kind(words: &mut Words, bytes: &Bytes, t: usize, kind: u64)
     requires { ⌜ Shaped (now words) (now bytes) × (t < 16) ⌝ }
     ensures { λ u. ⌜ Leaves words bytes (withThread (before words bytes) t (withKind (threadAt (before words bytes) t) kind)) ⌝ }
 {
-    let len = tables::thread_at(words, t).len;
-    tables::put_thread(words, t, ThreadWords { kind, len });
+    let len = held_threads::thread_at(words, t).len;
+    held_threads::put_thread(words, t, ThreadWords { kind, len });
 }
 
 // ---- op 01, start thread
@@ -28,7 +28,7 @@ fn check_start(words: &Words, bytes: &Bytes, t: u64, kind: u64) -> u64
     if 16 <= t {
         return 2;
     }
-    let own = tables::thread_at(words, t as usize).kind;
+    let own = held_threads::thread_at(words, t as usize).kind;
     if own != 0 {
         return 3;
     }
@@ -84,7 +84,7 @@ fn check_end(words: &Words, bytes: &Bytes, t: u64) -> u64
     if refusal != 0 {
         return refusal;
     }
-    if 0 < tables::thread_at(words, t as usize).len {
+    if 0 < held_threads::thread_at(words, t as usize).len {
         return 11;
     }
     0

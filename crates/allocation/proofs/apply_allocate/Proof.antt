@@ -7,7 +7,7 @@ use denote.Ref.{now}
 use Rattle.model.specs.State.{State, Memory, areaAt}
 use Rattle.model.specs.Objects.{currentAt}
 use Rattle.model.proofs.Accepted.{AllocateOk, allocate-ok}
-use Rattle.tables.specs.declared.thread.Entry.{Entry}
+use Rattle.tables.specs.declared.Entry.{Entry}
 use Rattle.tables.specs.Laws.{area-read}
 use Rattle.tables.specs.Contract.{stateIn, memoryIn}
 use Rattle.allocation.specs.Allocation.{area-low, words-low, words-in, bit-sum, bits-in, bits-low, allocated}

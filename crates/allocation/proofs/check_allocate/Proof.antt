@@ -11,7 +11,7 @@ use Rattle.model.specs.State.{State, areaAt}
 use Rattle.model.specs.Checks.{hasRight}
 use Rattle.model.specs.Objects.{currentAt}
 use Rattle.model.proofs.Accepted.{Called}
-use Rattle.tables.specs.declared.thread.Entry.{Entry}
+use Rattle.tables.specs.declared.Entry.{Entry}
 use Rattle.tables.specs.Laws.{area-read}
 use Rattle.tables.specs.Contract.{stateIn}
 use Rattle.callers.specs.Caller.{thread-called}

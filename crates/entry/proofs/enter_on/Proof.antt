@@ -7,7 +7,7 @@ use Rattle.model.specs.State.{State}
 use Rattle.model.specs.Scopes.{enterRest}
 use Rattle.model.proofs.Accepted.{Called, enter-ok}
 use Rattle.model.proofs.KeepsEnter.{good-enter}
-use Rattle.tables.specs.declared.thread.Entry.{Entry}
+use Rattle.tables.specs.declared.Entry.{Entry}
 use Rattle.tables.specs.Contract.{stateIn}
 use Rattle.tables.specs.AnsweredLaws.{changed-refused, changed-accepted}
 use Rattle.callers.specs.Caller.{thread-called}

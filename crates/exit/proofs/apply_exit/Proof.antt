@@ -2,7 +2,7 @@
 use denote.Ref.{now}
 use mathlib.Core.Path.{ap}
 use borrow.Author.Needs.{needs}
-use Rattle.tables.specs.declared.thread.Entry.{Entry}
+use Rattle.tables.specs.declared.Entry.{Entry}
 use Rattle.tables.specs.Decode.{stateOf}
 use Rattle.model.proofs.Bounds.{current-area, current-open}
 use Rattle.exit.specs.Exit.{left-some, exited-holds, exited-value}
