@@ -6,7 +6,8 @@ use mathlib.Core.Path.{_≡_, refl}
 use lib.ListN.{set}
 use Rattle.rights.specs.Rights.{textOf, builtIn}
 use Rattle.model.specs.Calls.{Call, start, end, enter, allocate, loadRights}
-use Rattle.model.proofs.SampleRuns.{statuses, each, supplied, copies, first}
+use Rattle.model.specs.Run.{World, other, suppliedTo, step}
+use Rattle.model.proofs.SampleRuns.{answer, statuses, each, supplied, copies, first}
 
 -- "Some sites let ordinary threads use immortal memory": f, f, 0 in place of f, 3, 0
 pub site : List ℕ
@@ -42,3 +43,12 @@ in-force = refl
 pub unsupplied : each (supplied first (record { permanent = []; scratch = []; map = [] })) (loadRights site ∷ loadRights [] ∷ start 0 2 ∷ []) ≡ 0 ∷ 23 ∷ 1 ∷ []
 unfolding each first site
 unsupplied = refl
+
+-- what stands beside a load in the list means nothing: the memory that is kept stays, and the load counts
+pub beside : World
+beside = step first (record { call = loadRights site; supplied = other (record { permanent = []; scratch = []; map = [] }) })
+
+pub beside-is : (suppliedTo (first .state) (first .memory) (loadRights site) (other (record { permanent = []; scratch = []; map = [] })) ≡ first .memory)
+    × (beside .memory ≡ first .memory) × (beside .state .rights ≡ site)
+unfolding answer first site beside
+beside-is = (refl, refl, refl)
