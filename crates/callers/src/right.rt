@@ -3,21 +3,16 @@ use rights::Right;
 use tables::Bytes;
 use tables::Words;
 ghost use mathlib.Core.Path.{_≡_};
-ghost use Prim.Native.Nat.{_<_};
 ghost use Rattle.model.specs.Checks.{hasRight};
-ghost use Rattle.tables.specs.Contract.{before};
+ghost use Rattle.model.proofs.Accepted.{Called};
+ghost use Rattle.tables.specs.Contract.{stateIn, before, Usable};
 
-// Whether a thread has a right in an area; one that is not started has none.
+// Whether a started thread has a right in an area: one digit, at the place of its kind, the area's class and the
+// right.
 pub fn has_right(words: &Words, bytes: &Bytes, t: usize, right: Right, area: u64) -> bool
-    requires { ⌜ t < 16 ⌝ }
+    requires { ⌜ Usable words bytes × Called (stateIn words bytes) t ⌝ }
     ensures { λ r. ⌜ r ≡ hasRight (before words bytes) t right area ⌝ }
 {
     let kind = held_threads::thread_at(words, t).kind;
-    if kind == 0 {
-        return false;
-    }
-    if 3 < kind {
-        return false;
-    }
     held_rights::right_at(bytes, rights::place(kind, area, right)) == b'1'
 }

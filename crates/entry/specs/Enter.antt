@@ -9,7 +9,7 @@ use native.Mathlib.Omega.{arith}
 use lib.Dec.{eqb, leb, ltb}
 use lib.ListN.{set}
 use borrow.Author.Tests.{le-leb, lt-leb, lt-ltb, le-ltb, eq-eqb, ne-eqb}
-use Rattle.layout.specs.Choice.{refuse}
+use Rattle.layout.specs.Choice.{refuse, hit, skip}
 use Rattle.rights.specs.declared.Right.the-variants.{Enter}
 use Rattle.model.specs.declared.Area.{Area}
 use Rattle.model.specs.State.{State, areaAt, threadAt, stackAt, innermost, madeAs, isMade, isScope, withThread}
@@ -24,18 +24,16 @@ use Rattle.callers.specs.Caller.{thread-refused, called-rest}
 use Rattle.model.proofs.Bounds.{inner-area, count-bound}
 use Rattle.model.proofs.KeepsEnter.{inner-depth}
 
--- refusals 6, 5, 9, 10, 17, from whether the thread has the right, the length of its stack, its innermost scope and the area
-unfoldable pub entryRest : Bool → ℕ → ℕ → Area → ℕ → ℕ
-entryRest allowed len inner x q =
-    refuse (not (madeAs x q)) 6
-    (refuse (not allowed) 5
-    (refuse (leb 32 len) 9
+-- refusals 9, 10, 17, from the length of a stack, its innermost scope and the area
+unfoldable pub entryRest : ℕ → ℕ → Area → ℕ → ℕ
+entryRest len inner x q =
+    refuse (leb 32 len) 9
     (refuse (isScope q && (ltb 0 (x .count) && not (eqb (x .parent) inner))) 10
-    (refuse (isScope q && (not (ltb 0 (x .count)) && leb lastGeneration (x .generation))) 17 0))))
+    (refuse (isScope q && (not (ltb 0 (x .count)) && leb lastGeneration (x .generation))) 17 0))
 
--- the same of a thread and an area of a state
-abbrev pub thereRest : State → ℕ → ℕ → ℕ → ℕ
-thereRest s t q inner = entryRest (hasRight s t Enter q) (threadAt s t .len) inner (areaAt s q) q
+-- refusals 6 and 5 before them, of a thread and an area of a state
+unfoldable pub thereRest : State → ℕ → ℕ → ℕ → ℕ
+thereRest s t q inner = refuse (not (madeAs (areaAt s q) q)) 6 (refuse (not (hasRight s t Enter q)) 5 (entryRest (threadAt s t .len) inner (areaAt s q) q))
 
 -- what opening area q below p needs
 pub record Openable (s : State) (q p : ℕ) : Type 0 where
@@ -62,42 +60,32 @@ pushedState s t q inner = withThread s t (record {
 
 -- ---- the refusals over numbers
 
-module _ (k : Bool) (n p : ℕ) (x : Area) (q : ℕ) where
-  pub not-made : madeAs x q ≡ false → 6 ≡ entryRest k n p x q
+module _ (n p : ℕ) (x : Area) (q : ℕ) where
+  pub full : 32 ≤ n → 9 ≡ entryRest n p x q
   unfolding entryRest refuse
-  not-made h = rw h
+  full h = rw (le-leb 32 n h)
 
-  module _ (made : madeAs x q ≡ true) where
-    pub no-right : k ≡ false → 5 ≡ entryRest k n p x q
+  module _ (room : n < 32) where
+    pub standing : q < 2 → 0 ≡ entryRest n p x q
     unfolding entryRest refuse
-    no-right h = rw (made, h)
+    standing h = rw (lt-leb 32 n room, lt-leb 2 q h)
 
-    module _ (right : k ≡ true) where
-      pub full : 32 ≤ n → 9 ≡ entryRest k n p x q
+    module _ (scope : 2 ≤ q) where
+      pub other-parent : 0 < x .count → x .parent ≢ p → 10 ≡ entryRest n p x q
       unfolding entryRest refuse
-      full h = rw (made, right, le-leb 32 n h)
+      other-parent o h = rw (lt-leb 32 n room, le-leb 2 q scope, lt-ltb 0 (x .count) o, ne-eqb (x .parent) p h)
 
-      module _ (room : n < 32) where
-        pub standing : q < 2 → 0 ≡ entryRest k n p x q
-        unfolding entryRest refuse
-        standing h = rw (made, right, lt-leb 32 n room, lt-leb 2 q h)
+      pub same-parent : 0 < x .count → x .parent ≡ p → 0 ≡ entryRest n p x q
+      unfolding entryRest refuse
+      same-parent o h = rw (lt-leb 32 n room, le-leb 2 q scope, lt-ltb 0 (x .count) o, eq-eqb (x .parent) p h)
 
-        module _ (scope : 2 ≤ q) where
-          pub other-parent : 0 < x .count → x .parent ≢ p → 10 ≡ entryRest k n p x q
-          unfolding entryRest refuse
-          other-parent o h = rw (made, right, lt-leb 32 n room, le-leb 2 q scope, lt-ltb 0 (x .count) o, ne-eqb (x .parent) p h)
+      pub last-generation : x .count ≤ 0 → lastGeneration ≤ x .generation → 17 ≡ entryRest n p x q
+      unfolding entryRest refuse
+      last-generation o h = rw (lt-leb 32 n room, le-leb 2 q scope, le-ltb 0 (x .count) o, le-leb lastGeneration (x .generation) h)
 
-          pub same-parent : 0 < x .count → x .parent ≡ p → 0 ≡ entryRest k n p x q
-          unfolding entryRest refuse
-          same-parent o h = rw (made, right, lt-leb 32 n room, le-leb 2 q scope, lt-ltb 0 (x .count) o, eq-eqb (x .parent) p h)
-
-          pub last-generation : x .count ≤ 0 → lastGeneration ≤ x .generation → 17 ≡ entryRest k n p x q
-          unfolding entryRest refuse
-          last-generation o h = rw (made, right, lt-leb 32 n room, le-leb 2 q scope, le-ltb 0 (x .count) o, le-leb lastGeneration (x .generation) h)
-
-          pub fresh-generation : x .count ≤ 0 → x .generation < lastGeneration → 0 ≡ entryRest k n p x q
-          unfolding entryRest refuse
-          fresh-generation o h = rw (made, right, lt-leb 32 n room, le-leb 2 q scope, le-ltb 0 (x .count) o, lt-leb lastGeneration (x .generation) h)
+      pub fresh-generation : x .count ≤ 0 → x .generation < lastGeneration → 0 ≡ entryRest n p x q
+      unfolding entryRest refuse
+      fresh-generation o h = rw (lt-leb 32 n room, le-leb 2 q scope, le-ltb 0 (x .count) o, lt-leb lastGeneration (x .generation) h)
 
 -- ---- the refusals over the state
 
@@ -112,7 +100,7 @@ module _ (s : State) (t q : ℕ) where
     enter-no-area h = sym (called-rest s t a _ ∙ rw (le-leb 64 q h))
 
     pub enter-entry : q < 64 → thereRest s t q (innermost (stackAt s t)) ≡ enterRest s t q
-    unfolding enterRest entryRest isMade otherParent generationsOut
+    unfolding enterRest thereRest entryRest isMade otherParent generationsOut
     enter-entry h = sym (called-rest s t a _ ∙ rw (lt-leb 64 q h))
 
   -- n is what the checks answer
@@ -131,11 +119,30 @@ module _ (s : State) (t q : ℕ) where
         };
       }
 
--- the refusals of a thread and an area that are there, where r, h and x are what the code reads of them
-pub there-read : (w b : List ℕ) (t q p : ℕ) {r : Bool} {h : ThreadWords} {n : ℕ} {x : Area} → t < 16 → q < 64
-    → r ≡ hasRight (stateOf w b) t Enter q → h ≡ threadRecord w t → x ≡ areaRecord w q
-    → n ≡ entryRest r (h .len) p x q → n ≡ thereRest (stateOf w b) t q p
-there-read w b t q p ht hq er el ex e = rw (sym er, len-read w b t ht el, area-read w b q hq ∙ sym ex) e
+-- ---- the refusals over the tables: x is the area's record, y what the test of it answers, r what is read of the right
+
+module _ (w b : List ℕ) (t q p : ℕ) (hq : q < 64) {x : Area} (ex : x ≡ areaRecord w q) {y : Bool} (ey : y ≡ madeAs x q) where
+  area-is : x ≡ areaAt (stateOf w b) q
+  area-is = ex ∙ sym (area-read w b q hq)
+
+  made-is : madeAs (areaAt (stateOf w b) q) q ≡ y
+  made-is = sym (ey ∙ ap (λ (z : Area). madeAs z q) area-is)
+
+  pub not-made : y ≡ false → 6 ≡ thereRest (stateOf w b) t q p
+  unfolding thereRest
+  not-made f = sym (hit (not (madeAs (areaAt (stateOf w b) q) q)) 6 _ (ap not (made-is ∙ f)))
+
+  module _ (f : y ≡ true) {r : Bool} (er : r ≡ hasRight (stateOf w b) t Enter q) where
+    past-6 : thereRest (stateOf w b) t q p ≡ refuse (not (hasRight (stateOf w b) t Enter q)) 5 (entryRest (threadAt (stateOf w b) t .len) p (areaAt (stateOf w b) q) q)
+    unfolding thereRest
+    past-6 = skip (not (madeAs (areaAt (stateOf w b) q) q)) 6 _ (ap not (made-is ∙ f))
+
+    pub no-right : r ≡ false → 5 ≡ thereRest (stateOf w b) t q p
+    no-right g = sym (past-6 ∙ hit (not (hasRight (stateOf w b) t Enter q)) 5 _ (ap not (sym er ∙ g)))
+
+    -- h are the words of the thread, n what the other checks answer
+    pub others-read : r ≡ true → {h : ThreadWords} {n : ℕ} → t < 16 → h ≡ threadRecord w t → n ≡ entryRest (h .len) p x q → n ≡ thereRest (stateOf w b) t q p
+    others-read g {n = n} ht el e = (rw (← len-read w b t ht el, area-is) at e) ∙ sym (past-6 ∙ skip (not (hasRight (stateOf w b) t Enter q)) 5 _ (ap not (sym er ∙ g)))
 
 -- what an area that opens has, from its record in the words
 module _ (w b : List ℕ) (q p : ℕ) (o : Openable (stateOf w b) q p) {x : Area} where

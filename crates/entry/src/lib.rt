@@ -16,6 +16,7 @@ ghost use Rattle.model.specs.State.{isScope, threadAt, stackAt, innermost};
 ghost use Rattle.model.specs.Scopes.{lastGeneration, reentered, opened, enteredArea, enterState, enterValue, enterChange};
 ghost use Rattle.model.specs.Calls as calls;
 ghost use Rattle.tables.specs.Decode.{displayRow, putRow, Shaped};
+ghost use Rattle.model.proofs.Accepted.{Called};
 ghost use Rattle.tables.specs.Contract.{stateIn, before, Leaves, Usable, Changes, Answers};
 ghost use Rattle.entry.specs.Enter.{entryRest, thereRest, Openable, Enterable, pushedState};
 
@@ -24,17 +25,10 @@ const LAST_GENERATION: u64 = 17592186044415;
 
 // ---- the refusals
 
-// Those that speak of a thread and an area that are there: whether the thread has the right, how many
-// entries its stack has, its innermost scope, and the area.
-fn check_entry(allowed: bool, len: u64, inner: u64, x: Area, q: u64) -> u64
-    ensures { λ n. ⌜ n ≡ entryRest allowed len inner x q ⌝ }
+// 9, 10 and 17, over how many entries the stack has, its innermost scope, and the area.
+fn check_entry(len: u64, inner: u64, x: Area, q: u64) -> u64
+    ensures { λ n. ⌜ n ≡ entryRest len inner x q ⌝ }
 {
-    if !held_areas::is_made(x, q) {
-        return 6;
-    }
-    if !allowed {
-        return 5;
-    }
     if 32 <= len {
         return 9;
     }
@@ -53,15 +47,20 @@ fn check_entry(allowed: bool, len: u64, inner: u64, x: Area, q: u64) -> u64
     0
 }
 
-// The same, read from the tables.
+// Those of a started thread and an area below 64: 6 and 5, then the others. The right is read after 6
+// is tested: read before, both tests would be kept as flags.
 fn check_there(words: &Words, bytes: &Bytes, t: usize, q: u64, inner: u8) -> u64
-    requires { ⌜ (t < 16) × (q < 64) ⌝ }
+    requires { ⌜ Usable words bytes × Called (stateIn words bytes) t × (q < 64) ⌝ }
     ensures { λ n. ⌜ n ≡ thereRest (before words bytes) t q inner ⌝ }
 {
-    let allowed = callers::has_right(words, bytes, t, Right::Enter, q);
-    let len = held_threads::thread_at(words, t).len;
     let x = held_areas::area_at(words, q as usize);
-    check_entry(allowed, len, inner as u64, x, q)
+    if !held_areas::is_made(x, q) {
+        return 6;
+    }
+    if !callers::has_right(words, bytes, t, Right::Enter, q) {
+        return 5;
+    }
+    check_entry(held_threads::thread_at(words, t).len, inner as u64, x, q)
 }
 
 // ---- the area

@@ -27,11 +27,11 @@ use Rattle.objects.specs.Places.{AreaWords, area-words, found-at, found-
 -- ---- the last step
 
 module _ (n a at o u : ℕ) where
-  pub ends-at : o + 1 + slotsOf n + dataOf n ≤ u → At (record { area = a; at = at; slots = slotsOf n; data_words = dataOf n }) ≡ endsOf n a at o u
+  pub ends-at : o + slotsOf n + dataOf n < u → At (record { area = a; at = at; slots = slotsOf n; data_words = dataOf n }) ≡ endsOf n a at o u
   unfolding endsOf
   ends-at k = sym (pick-true (leb (suc (o + slotsOf n + dataOf n)) u) _ _ (le-leb (suc (o + slotsOf n + dataOf n)) u (omega arith)))
 
-  pub ends-out : u < o + 1 + slotsOf n + dataOf n → Nothing ≡ endsOf n a at o u
+  pub ends-out : u ≤ o + slotsOf n + dataOf n → Nothing ≡ endsOf n a at o u
   unfolding endsOf
   ends-out k = sym (pick-false (leb (suc (o + slotsOf n + dataOf n)) u) _ _ (lt-leb (suc (o + slotsOf n + dataOf n)) u (omega arith)))
 

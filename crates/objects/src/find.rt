@@ -23,14 +23,14 @@ pub enum Found {
     Nothing,
 }
 
-// The object that a header at an offset heads, where it ends within the used words.
+// The object that a header at an offset heads, where its last word is a used one.
 fn whole(header: u64, area: u64, at: usize, offset: u64, used: u64) -> Found
     requires { ⌜ offset < 16384 ⌝ }
     ensures { λ r. ⌜ r ≡ endsOf header area at offset used ⌝ }
 {
     let slots = handle::slots(header);
     let data_words = handle::data_words(header);
-    if used < offset + 1 + slots + data_words {
+    if used <= offset + slots + data_words {
         return Found::Nothing;
     }
     Found::At(Resolved {

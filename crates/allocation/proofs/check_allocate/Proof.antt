@@ -57,7 +57,7 @@ top-entry-requires : tie.Need-top-entry-requires
 top-entry-requires c κs = (start c .pre, called c .thread)
 
 has-right-requires : tie.Need-has-right-requires
-has-right-requires c κs = called (c .before) .thread
+has-right-requires c κs = (start (c .before) .pre, called (c .before))
 
 area-at-requires : tie.Need-area-at-requires
 area-at-requires c κs = low (c .before)

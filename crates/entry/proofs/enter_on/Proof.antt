@@ -55,7 +55,7 @@ top-entry-requires c κs =
 check-there-requires : tie.Need-check-there-requires
 check-there-requires c κs =
     let e = c .before .before .before .before .before in
-    (called (e .before) .thread, e .if2 .left)
+    (start (e .before) .pre, called (e .before), e .if2 .left)
 
 returns-3 : tie.Need-returns-3
 returns-3 c = changed-refused _ _ _ (start (past (c .before) .before) .pre) (checked (c .before)) (c .if3 .taken)

@@ -37,7 +37,7 @@ returns-2 : tie.Need-returns-2
 returns-2 c = reference-nothing _ _ _ _ (c .before .before .before .if1 .left) (sym (c .enum-told .given .1) ∙ c .before .before .lookup .ensures .0)
 
 has-right-requires : tie.Need-has-right-requires
-has-right-requires c κs = start (past c) .pre .1 .called .thread
+has-right-requires c κs = (start (past c) .pre .0, start (past c) .pre .1 .called)
 
 returns-3 : tie.Need-returns-3
 returns-3 c =

@@ -40,7 +40,7 @@ returns c =
     refused-checked _ (λ z. omega arith) (use-nothing _ _ _ _ (start d .pre .0 .good) (sym (c .enum-told .given .1) ∙ d .lookup .ensures .0))
 
 has-right-requires : tie.Need-has-right-requires
-has-right-requires c κs = start (past c) .pre .1 .called .thread
+has-right-requires c κs = (start (past c) .pre .0, start (past c) .pre .1 .called)
 
 returns-2 : tie.Need-returns-2
 returns-2 c =

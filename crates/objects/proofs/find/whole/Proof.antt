@@ -6,11 +6,11 @@ use Rattle.objects.specs.Steps.{ends-at, ends-out}
 use Rattle.objects.proofs.find.whole.Statement.{statement}
 use Rattle.objects.proofs.find.whole.Tie as tie
 
-add-if1-2 : tie.Need-add-if1-2
-add-if1-2 c = omega (arith, c .before .slots .ensures, slots-lt (c .before .before .args .header))
+add-if1 : tie.Need-add-if1
+add-if1 c = omega (arith, c .before .slots .ensures, slots-lt (c .before .before .args .header))
 
-add-if1-3 : tie.Need-add-if1-3
-add-if1-3 c = omega (arith, c .before .slots .ensures, slots-lt (c .before .before .args .header), c .data-words .ensures, data-lt (c .before .before .args .header))
+add-if1-2 : tie.Need-add-if1-2
+add-if1-2 c = omega (arith, c .before .slots .ensures, slots-lt (c .before .before .args .header), c .data-words .ensures, data-lt (c .before .before .args .header))
 
 returns : tie.Need-returns
 returns c =
@@ -28,5 +28,4 @@ pub whole-spec : {M : Type 1} → statement M
 whole-spec =
     tie.close
     (tie.spec
-    (λ c κs. search needs) (λ c κs. search needs) (λ c. search needs)
-    add-if1-2 add-if1-3 returns returns-2)
+    (λ c κs. search needs) (λ c κs. search needs) add-if1 add-if1-2 returns returns-2)
