@@ -31,8 +31,8 @@ module _ (w b : List ℕ) (y : Ready w b) (t : ℕ) (h : Called (stateOf w b) t)
       → eqb d digit1 ≡ hasRight (stateOf w b) t r a
   unfolding hasRight
   by-digit a r {i} p k f = sym (
-    ap (λ (n : ℕ). allows (stateOf w b .rights) n (classOf a) r) kind-is
-    ∙ allows-at (stateOf w b .rights) (x .kind) (classOf a) (kind-within .0) (kind-within .1) r
-    ∙ ap (λ (j : ℕ). eqb (getD (stateOf w b .rights) j 0) digit1) (sym p)
-    ∙ ap (λ (c : ℕ). eqb c digit1) (right-read w b i k ∙ sym f)
-  )
+      ap (λ (n : ℕ). allows (stateOf w b .rights) n (classOf a) r) kind-is
+      ∙ allows-at (stateOf w b .rights) (x .kind) (classOf a) (kind-within .0) (kind-within .1) r
+      ∙ ap (λ (j : ℕ). eqb (getD (stateOf w b .rights) j 0) digit1) (sym p)
+      ∙ ap (λ (c : ℕ). eqb c digit1) (right-read w b i k ∙ sym f)
+      )
