@@ -290,7 +290,7 @@ pub fn loads_hold(machine: &Machine, loads: &Loads) -> Claim {
 /// "the constant table, which stays in force until a load": the table in force is that of the newest
 /// accepted load, or the built-in one.
 fn table_is_the_newest(machine: &Machine, loads: &Loads) -> Claim {
-    let in_force = machine.state.rights.digits().map(|digit| digit + b'0');
+    let in_force = *machine.state.rights.digits();
     claim(in_force == loads.digits(), || {
         let in_force = in_force.escape_ascii();
         format!(

@@ -42,7 +42,7 @@ pub const BUILT_IN: &[u8; DIGITS] = b"\
     111111111111\
     000011111111";
 
-/// A table that may be in force: its digits as numbers.
+/// A table that may be in force: its digits as text.
 #[derive(Clone, Copy, Debug, PartialEq, Eq)]
 pub struct RightsTable {
     digits: [u8; DIGITS],
@@ -50,9 +50,7 @@ pub struct RightsTable {
 
 impl RightsTable {
     pub fn built_in() -> RightsTable {
-        RightsTable {
-            digits: BUILT_IN.map(|digit| digit - b'0'),
-        }
+        RightsTable { digits: *BUILT_IN }
     }
 
     /// The table of a text: "Loading allows only 0 and 1, and A only with U."
@@ -61,12 +59,10 @@ impl RightsTable {
         let binary = text.iter().all(|digit| b"01".contains(digit));
         let mut classes = text.chunks(4);
         let a_without_u = classes.any(|class| class[1] == b'1' && class[2] == b'0');
-        (binary && !a_without_u).then(|| RightsTable {
-            digits: text.map(|digit| digit - b'0'),
-        })
+        (binary && !a_without_u).then_some(RightsTable { digits: text })
     }
 
-    /// The digits as numbers, in the order of the text.
+    /// The digits as text.
     pub fn digits(&self) -> &[u8; DIGITS] {
         &self.digits
     }
@@ -78,7 +74,7 @@ impl RightsTable {
             _ => 2,
         };
         let row = kind as usize - 1;
-        self.digits[row * 12 + class * 4 + right as usize] == 1
+        self.digits[row * 12 + class * 4 + right as usize] == b'1'
     }
 }
 

@@ -19,7 +19,7 @@ fn printed(lines: impl AsRef<[u8]>) -> String {
 fn set_up_gives_the_built_in_table() {
     let rights = Bench::new().machine.state.rights;
     assert_eq!(rights, RightsTable::built_in());
-    assert_eq!(rights.digits().map(|digit| digit + b'0'), *BUILT_IN);
+    assert_eq!(rights.digits(), BUILT_IN);
 }
 
 #[test]
