@@ -1,12 +1,16 @@
 # The two commands of README.md, and what else there is to run.
 
-.PHONY: run test prove lib compare hosts soak bench instructions format
+.PHONY: run rights test prove lib compare hosts soak bench instructions format
 
 # Proves and builds the program, runs it on the specification's example, or on a list (make run LIST=file), and shows each line with its answer.
 run:
 	@scripts/run $${LIST:+"$$LIST"}
 
-# Everything that the gate runs: each crate proved from nothing, each must-fail edit tried, the program
+# Prints the 36 digits of a rights table from its three lines: of the example, or of a file (make rights TABLE=file).
+rights:
+	@scripts/rights $${TABLE:+"$$TABLE"}
+
+# Everything that the gate runs: each crate proved from nothing, each must-fail edit tried, the programs
 # compared with the second implementation, the archive tried from C and Rust. Its last line is 'N passed, 0 failed'.
 test:
 	@scripts/test
@@ -18,7 +22,7 @@ prove:
 lib:
 	@scripts/lib
 
-# The program against the second implementation alone, after `make prove`.
+# The programs against the second implementation alone, after `make prove`.
 compare:
 	@scripts/compare
 

@@ -19,7 +19,7 @@ use Rattle.setup.specs.First.{Begun}
 pub data Served : List ℕ → List ℕ → Memory → List Line → Type 0 where
   -- "from an accepted set-up": it was lent the buffers m, and answered 0
   began : {w b : List ℕ} {m : Memory} {status : ℕ} (h i : ℕ) → Begun status w b h i (lengthsOf m) → status ≡ 0 → Served w b m []
-  -- "each given what the last one left": a call was lent what is kept, and what it left is kept
+  -- "each given what the last one left": a call was lent what is kept, and what it left is kept; one that is lent no buffer leaves it as it is
   called : {w b w′ b′ : List ℕ} {m m′ : Memory} {ls : List Line} {c : Call} {r : Reply}
       → Served w b m ls → Answered w b m c r w′ b′ m′ → Served w′ b′ m′ (record { call = c; reply = r } ∷ ls)
   -- a call was lent other buffers, not all of the lengths of set-up; what it left of them is not kept
