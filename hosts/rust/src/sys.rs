@@ -157,23 +157,7 @@ mod tests {
         assert_eq!(view_place(&state, &memory, 0, 1).status, 1);
     }
 
-    /// A load is lent no memory: the state of a refused set-up takes one too.
-    #[test]
-    fn loads_without_memory() {
-        let mut permanent = [0; 4];
-        let memory = Memory {
-            permanent: &mut permanent,
-            scratch: &mut [],
-            map: &mut [],
-        };
-        let (status, mut state) = set_up(&memory, 4, 0);
-        assert_eq!(status, 1);
-        assert_eq!(load_rights(&mut state, &[b'1'; 36]).status, 0);
-        assert_eq!(load_rights(&mut state, &[]).status, 23);
-        assert_eq!(start(&mut state, &memory, 0, 2).status, 1);
-    }
-
-    /// The state of a refused set-up serves empty buffers.
+    /// The state of a refused set-up serves empty buffers, and a load, which is lent none.
     #[test]
     fn refused_set_up_serves_empty_buffers() {
         let mut permanent = [0; 4];
@@ -184,6 +168,8 @@ mod tests {
         };
         let (status, mut state) = set_up(&memory, 4, 0);
         assert_eq!(status, 1);
+        assert_eq!(load_rights(&mut state, &[]).status, 23);
+        assert_eq!(load_rights(&mut state, &[b'1'; 36]).status, 0);
         assert_eq!(start(&mut state, &memory, 0, 2).status, 1);
         let mut empty = Memory {
             permanent: &mut [],
@@ -191,6 +177,7 @@ mod tests {
             map: &mut [],
         };
         assert_eq!(start(&mut state, &empty, 0, 2).status, 0);
+        assert_eq!(load_rights(&mut state, &[b'1'; 36]).status, 24);
         assert_eq!(enter(&mut state, &empty, 0, 1).value, 1);
         assert_eq!(allocate(&mut state, &mut empty, 0, 0, 0).status, 12);
         assert_eq!(make(&mut state, &empty, 0, 2, 1).status, 8);
