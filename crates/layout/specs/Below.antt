@@ -7,7 +7,7 @@ use mathlib.Core.Path.{_≡_, refl}
 use native.Mathlib.Omega.{arith}
 use lib.Dec.{eqb}
 use borrow.Author.Tests.{eqb-true, eqb-false}
-use Rattle.layout.specs.Choice.{cases, and-true, or-false}
+use Rattle.layout.specs.Choice.{cases, and-true}
 
 -- f holds of 0 to n - 1
 unfoldable pub allBelow : (ℕ → Bool) → ℕ → Bool
@@ -41,12 +41,3 @@ pub each-all : (f : ℕ → Bool) (n : ℕ) → ((i : ℕ) → i < n → f i ≡
 unfolding allBelow
 each-all f zero h = refl
 each-all f (suc n) h = rw (each-all f n (λ i l. h i (omega arith)), h n (omega arith)) refl
-
-pub none-each : (f : ℕ → Bool) (n : ℕ) → someBelow f n ≡ false → (i : ℕ) → i < n → f i ≡ false
-unfolding someBelow
-none-each f zero e i h = absurd (omega arith)
-none-each f (suc n) e i h =
-    let p = or-false (someBelow f n) (f n) e in
-    cases (eqb i n)
-    (λ q. rw (eqb-true i n q) (p .1))
-    (λ q. let ne : i ≡ n → ⊥ = eqb-false i n q in none-each f n (p .0) i (omega arith))

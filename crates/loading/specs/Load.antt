@@ -10,12 +10,12 @@ use lib.ListN.{length, getD}
 use borrow.Author.Tests.{eq-eqb, ne-eqb}
 use Rattle.layout.specs.Choice.{hit, skip}
 use Rattle.layout.specs.Below.{allBelow, someBelow, all-more, some-more}
-use Rattle.rights.specs.Rights.{digit0, digit1, tableSize, isBinary, onlyBinary, allocatorUses, allocatorsUse, isTable}
+use Rattle.rights.specs.Rights.{digit0, digit1, tableSize, isBinary, onlyBinary, allocatorUses, allocatorsUse, isTable, Loadable}
 use Rattle.model.specs.State.{State, Memory}
 use Rattle.model.specs.Checks.{isStarted}
 use Rattle.model.specs.Configuration.{anyStarted, loadRightsStatus, loadRightsState, loadRightsChange}
 use Rattle.model.specs.Calls.{rightsTable, loadRights}
-use Rattle.model.proofs.Accepted.{LoadRightsOk, load-rights-ok}
+use Rattle.model.proofs.Accepted.{load-rights-ok}
 use Rattle.model.proofs.KeepsConfiguration.{good-load}
 use Rattle.tables.specs.declared.ThreadWords.{ThreadWords}
 use Rattle.tables.specs.Decode.{stateOf, threadRecord, putRights}
@@ -109,12 +109,12 @@ module _ (w b : List ℕ) (y : Ready w b) (text : List ℕ) {n : ℕ} (e : n ≡
   not-loaded h m = unsupplied-answered w b (rightsTable text) (changed-refused w b (loadRightsChange (stateOf w b) text) y e h) m
 
   module _ (z : n ≡ 0) where
-    load-ok : LoadRightsOk (stateOf w b) text
+    load-ok : Loadable text
     load-ok = load-rights-ok (stateOf w b) text (sym e ∙ z)
 
     -- the text is as long as a table
     pub load-size : length text ≡ tableSize
-    load-size = load-ok .loadable .size
+    load-size = load-ok .size
 
     pub loaded : {b′ : List ℕ} → b′ ≡ putRights b text → (m : Memory) → Answered w b m (loadRights text) (plain n 0) w b′ m
     unfolding loadRightsState

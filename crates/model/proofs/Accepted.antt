@@ -1,7 +1,7 @@
 -- What an accepted call has passed: refusal 1 apart, then one record for each op, from the rest of its status being 0.
 -- Assumes nothing.
 use Prim.Native.Nat.{ℕ, suc, _+_, _≤_, _<_}
-use mathlib.Core.Bool.{true, false, not, _||_}
+use mathlib.Core.Bool.{true, not, _||_}
 use mathlib.Core.List.{List}
 use mathlib.Core.Path.{_≡_, refl}
 use native.Mathlib.Omega.{arith}
@@ -19,7 +19,7 @@ use Rattle.model.specs.Scopes.{makeRest, lastGeneration, otherParent, ge
 use Rattle.model.specs.Objects.{currentAt, allocateRest}
 use Rattle.model.specs.References.{mayRefer, slotRest, referenceRest, storeRest}
 use Rattle.model.specs.Data.{dataRest}
-use Rattle.model.specs.Configuration.{anyStarted, loadRightsStatus}
+use Rattle.model.specs.Configuration.{loadRightsStatus}
 
 -- refusal 1
 pub fitted-ok : (s : State) (m : Memory) (rest : ℕ) → fitted s m rest ≡ 0 → (fits s m ≡ true) × (rest ≡ 0)
@@ -228,15 +228,8 @@ module _ (s : State) (m : Memory) (t : ℕ) where
       let b = peel _ _ _ (a .1) in
       record { used = a .0; index = omega (arith, leb-false) }
 
--- ---- the load of a rights table
+-- ---- the load of a rights table: its text may be loaded
 
-pub record LoadRightsOk (s : State) (text : List ℕ) : Type 0 where
-  pub loadable : Loadable text
-  pub idle : anyStarted s ≡ false
-
-pub load-rights-ok : (s : State) (text : List ℕ) → loadRightsStatus s text ≡ 0 → LoadRightsOk s text
+pub load-rights-ok : (s : State) (text : List ℕ) → loadRightsStatus s text ≡ 0 → Loadable text
 unfolding loadRightsStatus
-load-rights-ok s text e =
-    let a = peel (not (isTable text)) 22 _ e in
-    let b = peel (anyStarted s) 23 0 (a .1) in
-    record { loadable = table-loadable text (not-false (isTable text) (a .0)); idle = b .0 }
+load-rights-ok s text e = table-loadable text (not-false (isTable text) (peel (not (isTable text)) 22 _ e .0))

@@ -1,30 +1,26 @@
--- The rights table in force is told by the lines alone, and a load is accepted only where no thread is started.
+-- The rights table in force is told by the lines alone, and so is what a load answers.
 -- Assumes nothing.
 use Prim.Native.Nat.{ℕ}
-use mathlib.Core.Bool.{Bool, true, false}
+use mathlib.Core.Bool.{Bool, not}
 use mathlib.Core.List.{List, [], _∷_}
-use mathlib.Core.Path.{_≡_, refl, sym, ap, _∙_}
+use mathlib.Core.Path.{_≡_, refl, ap, _∙_}
 use mathlib.Core.Logic.{⊎-elim}
-use lib.Dec.{eqb, ltb, leb}
-use native.Mathlib.Omega.{arith}
-use borrow.Author.Tests.{eq-eqb, ne-eqb, ltb-true}
-use Rattle.layout.specs.Choice.{pick, cases}
-use Rattle.layout.specs.Below.{none-each}
+use borrow.Author.Tests.{eq-eqb, ne-eqb}
+use Rattle.layout.specs.Choice.{refuse, cases}
+use Rattle.layout.specs.Below.{someBelow}
+use Rattle.rights.specs.Rights.{isTable}
 use Rattle.model.specs.declared.Lengths.{Lengths}
 use Rattle.model.specs.State.{State, Memory, withArea, withRow, withThread, withTaken, withRights, isOpen, isScope, current, stackAt}
 use Rattle.model.specs.SetUp.{firstState}
-use Rattle.model.specs.Checks.{isStarted}
 use Rattle.model.specs.Threads.{startState, endState}
 use Rattle.model.specs.Scopes.{makeState, enteredArea, enterState, leftArea, exitState}
 use Rattle.model.specs.Objects.{allocateState}
-use Rattle.model.specs.Configuration.{anyStarted, loadRightsState}
+use Rattle.model.specs.Configuration.{anyStarted, loadRightsStatus, loadRightsState}
 use Rattle.model.specs.Calls.{Call, start, end, make, enter, exit, allocate, store, write, asks, Configuration, rightsTable, configure, loadRights, configuring, callStatus, callState}
 use Rattle.model.specs.Run.{Line}
 use Rattle.model.specs.History.{History}
-use Rattle.model.specs.Values.{configuredTable, tableStep, tableLine, tableAfter}
-use Rattle.model.proofs.Accepted.{load-rights-ok}
+use Rattle.model.specs.Values.{loadAnswer, configuredTable, tableStep, tableLine, tableAfter}
 use Rattle.model.proofs.Sound.{Sound}
-use Rattle.model.proofs.NestingClaims.{threads}
 use Rattle.model.proofs.Outcomes.{Transition}
 
 -- ---- the table after a call
@@ -71,10 +67,9 @@ in-force-line s m ls f {l} d = ⊎-elim
     (λ x. rw (ne-eqb (l .reply .status) 0 (x .status), x .state) f)
     d
 
--- ---- when a table is loaded
+-- ---- what a load answers
 
-pub load-idle : (s : State) (m : Memory) (b : History) → Sound s m b → (text : List ℕ) → callStatus s m (loadRights text) ≡ 0 → (t : ℕ) → b .started t ≡ false
-unfolding anyStarted
-load-idle s m b o text e t = cases (b .started t)
-    (λ z. sym (o .same .started t) ∙ none-each (isStarted s) 16 (load-rights-ok s text e .idle) t (threads s b (o .good) (o .same) t z))
-    (λ z. z)
+-- the history has the started threads
+pub load-told : (s : State) (m : Memory) (b : History) → Sound s m b → (text : List ℕ) → callStatus s m (loadRights text) ≡ loadAnswer b text
+unfolding loadRightsStatus anyStarted loadAnswer
+load-told s m b o text = ap (λ (f : ℕ → Bool). refuse (not (isTable text)) 23 (refuse (someBelow f 16) 24 0)) (λ i t. o .same .started t i)

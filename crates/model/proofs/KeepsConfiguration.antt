@@ -3,12 +3,13 @@
 use Prim.Native.Nat.{ℕ}
 use mathlib.Core.List.{List}
 use mathlib.Core.Path.{_≡_, refl}
+use Rattle.rights.specs.Rights.{Loadable}
 use Rattle.model.specs.State.{State, withRights, displayAt}
 use Rattle.model.specs.Configuration.{loadRightsState}
 use Rattle.model.specs.Calls.{Configuration, rightsTable, configuring}
 use Rattle.model.specs.History.{History}
 use Rattle.model.specs.Invariant.{Good}
-use Rattle.model.proofs.Accepted.{LoadRightsOk, load-rights-ok}
+use Rattle.model.proofs.Accepted.{load-rights-ok}
 use Rattle.model.proofs.Parts.{nesting-same, nested-good, good-rights}
 use Rattle.model.proofs.Sound.{Same}
 use Rattle.model.proofs.Alters.{Stays}
@@ -16,9 +17,9 @@ use Rattle.model.proofs.Alters.{Stays}
 -- ---- the load of a rights table
 
 module _ (s : State) (text : List ℕ) where
-  pub good-load : Good s → LoadRightsOk s text → Good (loadRightsState s text)
+  pub good-load : Good s → Loadable text → Good (loadRightsState s text)
   unfolding loadRightsState withRights displayAt
-  good-load g ok = nested-good (good-rights s g text (ok .loadable)) (nesting-same (g .nesting) (λ a. (refl, refl)) (λ a. refl) refl)
+  good-load g ok = nested-good (good-rights s g text ok) (nesting-same (g .nesting) (λ a. (refl, refl)) (λ a. refl) refl)
 
   load-stays : Stays s (loadRightsState s text)
   unfolding loadRightsState withRights

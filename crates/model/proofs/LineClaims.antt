@@ -1,23 +1,23 @@
 -- What each line of a trace answers, by the lines before it.
 -- Assumes nothing.
 use Prim.Native.Nat.{ℕ}
-use mathlib.Core.Bool.{false}
+use mathlib.Core.Bool.{false≢true}
 use mathlib.Core.List.{List, [], _∷_}
 use mathlib.Core.Path.{_≡_, sym, ap, _∙_}
 use mathlib.Core.Logic.{_≢_, ⊎-elim}
 use native.Mathlib.Omega.{arith}
 use Rattle.model.specs.State.{State, Memory}
-use Rattle.model.specs.Calls.{Call, enter, exit, load, loadRights, callStatus, callValue}
+use Rattle.model.specs.Calls.{Call, enter, exit, load, loadRights, isSupplied, callStatus, callValue}
 use Rattle.model.specs.Run.{Line}
 use Rattle.model.specs.History.{historyOf}
-use Rattle.model.specs.Values.{lastStored, entryGeneration, entriesLeft}
+use Rattle.model.specs.Values.{lastStored, entryGeneration, entriesLeft, loadAnswer}
 use Rattle.model.specs.Claims.{Follows, newest, older}
 use Rattle.model.proofs.Sound.{Sound}
 use Rattle.model.proofs.MemoryClaims.{no-15}
 use Rattle.model.proofs.Outcomes.{Accepts, Transition, accepts}
 use Rattle.model.proofs.Openings.{Opened, entry-value, exit-value}
 use Rattle.model.proofs.Stored.{Stored, load-value}
-use Rattle.model.proofs.Configured.{load-idle}
+use Rattle.model.proofs.Configured.{load-told}
 
 -- the claims of one line
 pub record LineClaims (l : Line) (before : List Line) : Type 0 where
@@ -25,7 +25,7 @@ pub record LineClaims (l : Line) (before : List Line) : Type 0 where
   pub loaded : (t p q : ℕ) → l .call ≡ load t p q → l .reply .status ≡ 0 → l .reply .value ≡ lastStored p q before
   pub entries : (t q : ℕ) → l .call ≡ enter t q → l .reply .status ≡ 0 → l .reply .value ≡ entryGeneration q before
   pub exits : (t : ℕ) → l .call ≡ exit t → l .reply .status ≡ 0 → l .reply .value ≡ entriesLeft (historyOf before) t
-  pub reloads : (text : List ℕ) → l .call ≡ loadRights text → l .reply .status ≡ 0 → (t : ℕ) → historyOf before .started t ≡ false
+  pub reloads : (text : List ℕ) → l .call ≡ loadRights text → l .reply .status ≡ loadAnswer (historyOf before) text
 
 module _ (s : State) (m : Memory) (ls : List Line) (o : Sound s m (historyOf ls)) (w : Stored s m ls) (g : Opened s ls)
     {l : Line} {n : State} {k : Memory} (d : Transition s m l n k) where
@@ -34,8 +34,15 @@ module _ (s : State) (m : Memory) (ls : List Line) (o : Sound s m (historyOf ls)
       (λ x. omega (arith, x .status))
       (λ x. ⊎-elim
       (λ y. no-15 s m (historyOf ls) o t p q (sym (y ∙ ap (callStatus s m) e) ∙ z))
-      (λ y. omega arith)
+      (λ y. omega (arith, y .0))
       (x .number))
+      d
+
+  -- a load is not refused by 1
+  load-status : (text : List ℕ) → l .call ≡ loadRights text → l .reply .status ≡ callStatus s m (loadRights text)
+  load-status text e = ⊎-elim
+      (λ x. x .status ∙ sym (x .passed) ∙ ap (callStatus s m) e)
+      (λ x. ⊎-elim (λ y. y ∙ ap (callStatus s m) e) (λ y. absurd (false≢true (sym (ap isSupplied e) ∙ y .1))) (x .number))
       d
 
   -- an accepted line has the value of its call
@@ -50,7 +57,7 @@ module _ (s : State) (m : Memory) (ls : List Line) (o : Sound s m (historyOf ls)
     loaded = λ t p q e z. let x = value-is (load t p q) e z in x .1 ∙ load-value s m ls o w t p q (x .0);
     entries = λ t q e z. let x = value-is (enter t q) e z in x .1 ∙ entry-value s m ls o g t q (x .0);
     exits = λ t e z. let x = value-is (exit t) e z in x .1 ∙ exit-value s m (historyOf ls) o t (x .0);
-    reloads = λ text e z. load-idle s m (historyOf ls) o text (value-is (loadRights text) e z .0);
+    reloads = λ text e. load-status text e ∙ load-told s m (historyOf ls) o text;
   }
 
 -- ---- every line

@@ -28,12 +28,12 @@ pub record Accepts (s : State) (m : Memory) (l : Line) (n : State) (k : Memory) 
   pub status : l .reply .status ≡ 0
   pub value : l .reply .value ≡ callValue s m (l .call)
 
--- .. or refused, by its own status or for the lengths of what it was lent
+-- .. or refused, by its own status or for the lengths of what it was lent, if it is lent anything
 pub record Refuses (s : State) (m : Memory) (l : Line) (n : State) (k : Memory) : Type 0 where
   pub state : n ≡ s
   pub memory : k ≡ m
   pub status : l .reply .status ≢ 0
-  pub number : (l .reply .status ≡ callStatus s m (l .call)) ⊎ (l .reply .status ≡ 1)
+  pub number : (l .reply .status ≡ callStatus s m (l .call)) ⊎ ((l .reply .status ≡ 1) × (isSupplied (l .call) ≡ true))
 
 abbrev pub Transition : State → Memory → Line → State → Memory → Type 0
 Transition s m l n k = Accepts s m l n k ⊎ Refuses s m l n k
@@ -87,22 +87,26 @@ module _ (s : State) (n : Memory) (u : fits s n ≡ false) where
   unfolding fitted
   unfit-fitted rest = hit (not (fits s n)) 1 _ (ap not u)
 
-  unfit-question : (x : Question) → (callStatus s n (asks x) ≡ 1) ⊎ Skips1 (asks x)
-  unfit-question (loads t p q) = inl (unfit-fitted _)
-  unfit-question (reads t p q) = inl (unfit-fitted _)
+  -- it is lent the buffers, and refused by 1
+  abbrev By1 : Call → Type 0
+  By1 c = (callStatus s n c ≡ 1) × (isSupplied c ≡ true)
+
+  unfit-question : (x : Question) → By1 (asks x) ⊎ Skips1 (asks x)
+  unfit-question (loads t p q) = inl (unfit-fitted _, refl)
+  unfit-question (reads t p q) = inl (unfit-fitted _, refl)
   unfit-question (views t p) = inr (views-part t p)
-  unfit-question (viewsStatus t p) = inl (unfit-fitted _)
+  unfit-question (viewsStatus t p) = inl (unfit-fitted _, refl)
 
   -- "1: lengths are not those of set-up", before every other refusal
-  unfit-status : (c : Call) → (callStatus s n c ≡ 1) ⊎ Skips1 c
-  unfit-status (start t p) = inl (unfit-fitted _)
-  unfit-status (end t) = inl (unfit-fitted _)
-  unfit-status (make t q r) = inl (unfit-fitted _)
-  unfit-status (enter t q) = inl (unfit-fitted _)
-  unfit-status (exit t) = inl (unfit-fitted _)
-  unfit-status (allocate t q r) = inl (unfit-fitted _)
-  unfit-status (store t p q r) = inl (unfit-fitted _)
-  unfit-status (write t p q r) = inl (unfit-fitted _)
+  unfit-status : (c : Call) → By1 c ⊎ Skips1 c
+  unfit-status (start t p) = inl (unfit-fitted _, refl)
+  unfit-status (end t) = inl (unfit-fitted _, refl)
+  unfit-status (make t q r) = inl (unfit-fitted _, refl)
+  unfit-status (enter t q) = inl (unfit-fitted _, refl)
+  unfit-status (exit t) = inl (unfit-fitted _, refl)
+  unfit-status (allocate t q r) = inl (unfit-fitted _, refl)
+  unfit-status (store t p q r) = inl (unfit-fitted _, refl)
+  unfit-status (write t p q r) = inl (unfit-fitted _, refl)
   unfit-status (asks x) = unfit-question x
   unfit-status (configure x) = inr (configures x)
 
@@ -110,8 +114,8 @@ module _ (s : State) (n : Memory) (u : fits s n ≡ false) where
   pub unfit-memory : (c : Call) → outcomeOf s n c .memory ≡ n
   unfit-memory c = ⊎-elim by-1 by-none (unfit-status c)
     where
-      by-1 : callStatus s n c ≡ 1 → outcomeOf s n c .memory ≡ n
-      by-1 e = unfold outcomeOf in rw e refl
+      by-1 : By1 c → outcomeOf s n c .memory ≡ n
+      by-1 e = unfold outcomeOf in rw (e .0) refl
 
       by-none : {d : Call} → Skips1 d → outcomeOf s n d .memory ≡ n
       by-none (views-part t p) = unfold outcomeOf in refl
@@ -121,8 +125,8 @@ module _ (s : State) (n : Memory) (u : fits s n ≡ false) where
   pub unfit : (m : Memory) (c : Call) → Transition s m (lineFor s n c) (outcomeOf s n c .state) m
   unfit m c = ⊎-elim by-1 by-none (unfit-status c)
     where
-      by-1 : callStatus s n c ≡ 1 → Transition s m (lineFor s n c) (outcomeOf s n c .state) m
-      by-1 e = unfold outcomeOf in rw e (inr record { state = refl; memory = refl; status = λ z. omega arith; number = inr refl })
+      by-1 : By1 c → Transition s m (lineFor s n c) (outcomeOf s n c .state) m
+      by-1 e = unfold outcomeOf in rw (e .0) (inr record { state = refl; memory = refl; status = λ z. omega arith; number = inr (refl, e .1) })
 
       by-none : {d : Call} → Skips1 d → Transition s m (lineFor s n d) (outcomeOf s n d .state) m
       by-none (views-part t p) = unfold outcomeOf in inl record { passed = refl; state = refl; memory = refl; status = refl; value = refl }

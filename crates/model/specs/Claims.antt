@@ -16,7 +16,7 @@ use Rattle.model.specs.Checks.{isStarted, live}
 use Rattle.model.specs.Calls.{enter, exit, allocate, load, loadRights}
 use Rattle.model.specs.Run.{Element, Line, World, run}
 use Rattle.model.specs.History.{Object, History, threadRow, occurrences, total, historyOf}
-use Rattle.model.specs.Values.{lastStored, entryGeneration, entriesLeft, tableAfter}
+use Rattle.model.specs.Values.{lastStored, entryGeneration, entriesLeft, loadAnswer, tableAfter}
 
 -- ---- the words of the claims
 
@@ -155,6 +155,6 @@ pub record Claims (w : World) (b : History) : Type 0 where
   pub rights : w .state .rights ≡ tableAfter (w .trace)
   -- "Loading allows only 0 and 1, and A only with U."
   pub loadable : Loadable (w .state .rights)
-  -- "24 when any thread is started": so no started thread's rights change
+  -- A load answers by its text and the lines before: where any thread is started, it is refused, so no started thread's rights change.
   pub reloads : (l : Line) (before : List Line) → Follows l before (w .trace) → (text : List ℕ) → l .call ≡ loadRights text
-      → l .reply .status ≡ 0 → (t : ℕ) → historyOf before .started t ≡ false
+      → l .reply .status ≡ loadAnswer (historyOf before) text

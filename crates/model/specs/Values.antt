@@ -1,13 +1,14 @@
--- What the lines so far say of a value to come: the word that a load gives, the generation that an entry gives, the entries that an exit leaves; and of
--- the rights table in force.
+-- What the lines so far say of a value to come: the word that a load gives, the generation that an entry gives, the entries that an exit leaves; what
+-- a load of rights answers, and which rights table is in force.
 -- Assumes nothing.
 use Prim.Native.Nat.{ℕ, suc}
-use mathlib.Core.Bool.{_&&_}
+use mathlib.Core.Bool.{not, _&&_}
 use mathlib.Core.List.{List, [], _∷_}
 use lib.Dec.{eqb}
-use Rattle.layout.specs.Choice.{pick}
+use Rattle.layout.specs.Choice.{pick, refuse}
+use Rattle.layout.specs.Below.{someBelow}
 use Rattle.layout.specs.Handle.{null}
-use Rattle.rights.specs.Rights.{builtIn}
+use Rattle.rights.specs.Rights.{builtIn, isTable}
 use Rattle.model.specs.State.{current, isScope}
 use Rattle.model.specs.Calls.{Call, start, end, make, enter, exit, allocate, store, write, asks, Configuration, rightsTable, configure}
 use Rattle.model.specs.Run.{Line}
@@ -72,6 +73,13 @@ entryGeneration q ls = pick (isScope q) (pick (eqb (total q (historyOf ls .rows)
 -- how many entries of the area that thread t leaves, if it is a scope, are left on all rows
 unfoldable pub entriesLeft : History → ℕ → ℕ
 entriesLeft b t = pick (isScope (current (threadRow b t))) (total (current (threadRow b t)) (historyExit b t .rows)) 0
+
+-- ---- the load of a rights table
+
+-- what a load of a text answers after the history b: "23 when there are not 36 digits or they break these rules, first. 24 when any thread is
+-- started, after 23."
+unfoldable pub loadAnswer : History → List ℕ → ℕ
+loadAnswer b text = refuse (not (isTable text)) 23 (refuse (someBelow (b .started) 16) 24 0)
 
 -- ---- the rights table
 

@@ -11,7 +11,7 @@ use borrow.Author.Tests.{eq-eqb, ne-eqb, eqb-true}
 use Rattle.layout.specs.Choice.{pick, cases, pick-false}
 use Rattle.model.specs.State.{State, Memory}
 use Rattle.model.specs.Checks.{fits, fitted, Change}
-use Rattle.model.specs.Calls.{Call, Configuration, configure, configuring, isSupplied, Effect, changing, effectOf, callStatus, callValue, callWords, callState, callMemory, Reply, settled, outcomeOf}
+use Rattle.model.specs.Calls.{Call, Configuration, configure, configuring, isSupplied, Effect, unsupplied, changing, effectOf, callStatus, callValue, callWords, callState, callMemory, Reply, settled, outcomeOf}
 use Rattle.model.specs.Run.{kept, other, Element, Line, World, suppliedTo, step}
 use Rattle.model.specs.Invariant.{Good}
 use Rattle.model.proofs.Keeps.{good-call}
@@ -66,7 +66,29 @@ module _ (w b : List ℕ) (x : Change) (y : Ready w b) {n : ℕ} (e : n ≡ x .s
         ready = record { sized = h .sized; good = rw (h .state) g };
       }
 
--- a call whose effect is such a change: lent other lengths it is refused by 1, else it does what the change says
+-- a call that does no more than a change says, whatever it is lent
+module _ (w b : List ℕ) (m : Memory) (c : Call) (x : Change) (q : effectOf (stateOf w b) m c ≡ unsupplied (stateOf w b) m x) where
+  outcome-is : outcomeOf (stateOf w b) m c ≡ settled (stateOf w b) m (unsupplied (stateOf w b) m x)
+  unfolding outcomeOf
+  outcome-is = ap (settled (stateOf w b) m) q
+
+  pub changed-answered : {n v : ℕ} {w′ b′ : List ℕ} → Changed w b x n v w′ b′ → Answered w b m c (plain n v) w′ b′ m
+  changed-answered d =
+      cases (eqb (x .status) 0)
+      (λ k. record {
+        reply-is = rw (outcome-is, d .status-is, d .value-is, k) (rw (eqb-true (x .status) 0 k) refl);
+        state-is = rw (outcome-is, k) (d .state-is ∙ rw k refl);
+        memory-is = rw (outcome-is, k) refl;
+        ready = d .ready;
+      })
+      (λ k. record {
+        reply-is = rw (outcome-is, d .status-is, d .value-is, k) refl;
+        state-is = rw (outcome-is, k) (d .state-is ∙ rw k refl);
+        memory-is = rw (outcome-is, k) refl;
+        ready = d .ready;
+      })
+
+-- a call that is lent the buffers: lent other lengths it is refused by 1, else it does what the change says
 module _ (w b : List ℕ) (m : Memory) (c : Call) (x : Change) (q : effectOf (stateOf w b) m c ≡ changing (stateOf w b) m x) where
   status-fitted : callStatus (stateOf w b) m c ≡ fitted (stateOf w b) m (x .status)
   status-fitted = ap (λ (k : Effect). k .status) q
@@ -74,46 +96,14 @@ module _ (w b : List ℕ) (m : Memory) (c : Call) (x : Change) (q : effectOf (st
   pub unfit-answered : Ready w b → fits (stateOf w b) m ≡ false → Answered w b m c (plain 1 0) w b m
   unfit-answered y u = answered-refused w b m c y (sym (status-fitted ∙ unfit-fitted (stateOf w b) m u (x .status))) (λ z. omega arith)
 
-  outcome-is : outcomeOf (stateOf w b) m c ≡ settled (stateOf w b) m (changing (stateOf w b) m x)
-  unfolding outcomeOf
-  outcome-is = ap (settled (stateOf w b) m) q
-
   pub fit-answered : fits (stateOf w b) m ≡ true → {n v : ℕ} {w′ b′ : List ℕ} → Changed w b x n v w′ b′ → Answered w b m c (plain n v) w′ b′ m
-  fit-answered f d =
-      let s = fit-fitted (stateOf w b) m f (x .status) in
-      cases (eqb (x .status) 0)
-      (λ k. record {
-        reply-is = rw (outcome-is, s, d .status-is, d .value-is, k) (rw (eqb-true (x .status) 0 k) refl);
-        state-is = rw (outcome-is, s, k) (d .state-is ∙ rw k refl);
-        memory-is = rw (outcome-is, s, k) refl;
-        ready = d .ready;
-      })
-      (λ k. record {
-        reply-is = rw (outcome-is, s, d .status-is, d .value-is, k) refl;
-        state-is = rw (outcome-is, s, k) (d .state-is ∙ rw k refl);
-        memory-is = rw (outcome-is, s, k) refl;
-        ready = d .ready;
-      })
+  fit-answered f d = changed-answered w b m c x
+      (q ∙ ap (λ (n : ℕ). unsupplied (stateOf w b) m (record { status = n; value = x .value; state = x .state })) (fit-fitted (stateOf w b) m f (x .status))) d
 
--- a call that is lent no buffer: whatever is kept, it does what its change says
+-- a call that is lent no buffer
 pub unsupplied-answered : (w b : List ℕ) (x : Configuration) {n v : ℕ} {w′ b′ : List ℕ} → Changed w b (configuring (stateOf w b) x) n v w′ b′
     → (m : Memory) → Answered w b m (configure x) (plain n v) w′ b′ m
-unfolding outcomeOf
-unsupplied-answered w b x {n} d m =
-    let k : Change = configuring (stateOf w b) x in
-    cases (eqb (k .status) 0)
-    (λ e. record {
-      reply-is = rw (d .status-is, d .value-is, e) (rw (eqb-true (k .status) 0 e) refl);
-      state-is = rw e (d .state-is ∙ rw e refl);
-      memory-is = rw e refl;
-      ready = d .ready;
-    })
-    (λ e. record {
-      reply-is = rw (d .status-is, d .value-is, e) refl;
-      state-is = rw e (d .state-is ∙ rw e refl);
-      memory-is = rw e refl;
-      ready = d .ready;
-    })
+unsupplied-answered w b x d m = changed-answered w b m (configure x) (configuring (stateOf w b) x) refl d
 
 -- ---- a call by its contract is a step
 
