@@ -18,9 +18,11 @@ use Rattle.model.specs.Scopes.{lastGeneration, otherParent, generationsOut, ent
 use Rattle.model.specs.Invariant.{Good}
 use Rattle.model.proofs.Accepted.{Called, EnterOk, enter-ok}
 use Rattle.tables.specs.declared.ThreadWords.{ThreadWords}
+use Rattle.tables.specs.declared.Entry.{Entry}
 use Rattle.tables.specs.Decode.{stateOf, areaRecord, threadRecord}
 use Rattle.tables.specs.Laws.{area-read, len-read}
 use Rattle.callers.specs.Caller.{thread-refused, called-rest}
+use Rattle.callers.specs.Stack.{topEntryOf}
 use Rattle.model.proofs.Bounds.{inner-area, count-bound}
 use Rattle.model.proofs.KeepsEnter.{inner-depth}
 
@@ -35,19 +37,15 @@ entryRest len inner x q =
 unfoldable pub thereRest : State → ℕ → ℕ → ℕ → ℕ
 thereRest s t q inner = refuse (not (madeAs (areaAt s q) q)) 6 (refuse (not (hasRight s t Enter q)) 5 (entryRest (threadAt s t .len) inner (areaAt s q) q))
 
--- what opening area q below p needs
-pub record Openable (s : State) (q p : ℕ) : Type 0 where
-  pub area : q < 64
-  pub parent : p < 64
-  pub depth : areaAt s p .depth < 32
-  pub count : areaAt s q .count ≤ 512
-  pub generation : 2 ≤ q → areaAt s q .count ≡ 0 → areaAt s q .generation < lastGeneration
-
 -- what an accepted entry has
 pub record Enterable (s : State) (t q : ℕ) : Type 0 where
   pub thread : t < 16
   pub room : threadAt s t .len < 32
-  pub opens : Openable s q (innermost (stackAt s t))
+  pub area : q < 64
+  pub parent : innermost (stackAt s t) < 64
+  pub depth : areaAt s (innermost (stackAt s t)) .depth < 32
+  pub count : areaAt s q .count ≤ 512
+  pub generation : 2 ≤ q → areaAt s q .count ≡ 0 → areaAt s q .generation < lastGeneration
 
 -- an entry on a stack, with the innermost scope as of it
 unfoldable pub pushedState : State → ℕ → ℕ → ℕ → State
@@ -99,9 +97,13 @@ module _ (s : State) (t q : ℕ) where
     unfolding enterRest refuse
     enter-no-area h = sym (called-rest s t a _ ∙ rw (le-leb 64 q h))
 
-    pub enter-entry : q < 64 → thereRest s t q (innermost (stackAt s t)) ≡ enterRest s t q
+    enter-entry : q < 64 → thereRest s t q (innermost (stackAt s t)) ≡ enterRest s t q
     unfolding enterRest thereRest entryRest isMade otherParent generationsOut
     enter-entry h = sym (called-rest s t a _ ∙ rw (lt-leb 64 q h))
+
+    -- x is what is read of the top, n what the checks answer
+    pub there-checked : q < 64 → {x : Entry} {n : ℕ} → x ≡ topEntryOf (stackAt s t) → n ≡ thereRest s t q (x .inner) → n ≡ enterRest s t q
+    there-checked h e f = f ∙ ap (λ (y : Entry). thereRest s t q (y .inner)) e ∙ enter-entry h
 
   -- n is what the checks answer
   pub enterable : {n : ℕ} → Good s → n ≡ enterRest s t q → n ≡ 0 → Enterable s t q
@@ -110,13 +112,11 @@ module _ (s : State) (t q : ℕ) where
       record {
         thread = k .called .thread;
         room = k .room;
-        opens = record {
-          area = k .area;
-          parent = inner-area s g t (k .called .thread);
-          depth = inner-depth s t q g k;
-          count = count-bound s g q (k .area);
-          generation = k .generation;
-        };
+        area = k .area;
+        parent = inner-area s g t (k .called .thread);
+        depth = inner-depth s t q g k;
+        count = count-bound s g q (k .area);
+        generation = k .generation;
       }
 
 -- ---- the refusals over the tables: x is the area's record, y what the test of it answers, r what is read of the right
@@ -144,16 +144,22 @@ module _ (w b : List ℕ) (t q p : ℕ) (hq : q < 64) {x : Area} (ex : x ≡ are
     pub others-read : r ≡ true → {h : ThreadWords} {n : ℕ} → t < 16 → h ≡ threadRecord w t → n ≡ entryRest (h .len) p x q → n ≡ thereRest (stateOf w b) t q p
     others-read g {n = n} ht el e = (rw (← len-read w b t ht el, area-is) at e) ∙ sym (past-6 ∙ skip (not (hasRight (stateOf w b) t Enter q)) 5 _ (ap not (sym er ∙ g)))
 
--- what an area that opens has, from its record in the words
-module _ (w b : List ℕ) (q p : ℕ) (o : Openable (stateOf w b) q p) {x : Area} where
-  pub count-room : x ≡ areaRecord w q → x .count ≤ 512
-  count-room e = rw (area-read w b q (o .area) ∙ sym e) at (o .count)
+-- what an accepted entry has, from the records in the words
+module _ (w b : List ℕ) (t q : ℕ) (k : Enterable (stateOf w b) t q) where
+  pub count-room : {x : Area} → x ≡ areaRecord w q → x .count ≤ 512
+  count-room e = rw (area-read w b q (k .area) ∙ sym e) at (k .count)
 
-  pub depth-room : x ≡ areaRecord w p → x .depth < 32
-  depth-room e = rw (area-read w b p (o .parent) ∙ sym e) at (o .depth)
+  pub parent-room : (p : ℕ) → p ≡ innermost (stackAt (stateOf w b) t) → p < 64
+  parent-room p i = rw i (k .parent)
 
-  pub generation-room : x ≡ areaRecord w q → 2 ≤ q → x .count ≤ 0 → x .generation < lastGeneration
-  generation-room e h k =
-      let f : areaAt (stateOf w b) q ≡ x = area-read w b q (o .area) ∙ sym e in
-      let z : x .count ≡ 0 = omega arith in
-      rw f at (o .generation h (ap (λ (y : Area). y .count) f ∙ z))
+  pub depth-room : (p : ℕ) {x : Area} → p ≡ innermost (stackAt (stateOf w b) t) → x ≡ areaRecord w p → x .depth < 32
+  depth-room p {x} i e =
+      let f : areaAt (stateOf w b) p ≡ x = area-read w b p (parent-room p i) ∙ sym e in
+      let d : areaAt (stateOf w b) p .depth < 32 = rw i (k .depth) in
+      rw f at d
+
+  pub generation-room : {x : Area} → x ≡ areaRecord w q → 2 ≤ q → areaRecord w q .count ≤ 0 → x .generation < lastGeneration
+  generation-room e h n =
+      let f : areaAt (stateOf w b) q ≡ areaRecord w q = area-read w b q (k .area) in
+      let z : areaRecord w q .count ≡ 0 = omega arith in
+      rw (f ∙ sym e) at (k .generation h (ap (λ (y : Area). y .count) f ∙ z))

@@ -10,15 +10,14 @@ use tables::ThreadWords;
 use tables::Words;
 ghost use mathlib.Core.Path.{_≡_};
 ghost use Prim.Native.Nat.{_<_, _≤_};
-ghost use Rattle.layout.specs.Choice.{pick};
 ghost use Rattle.layout.specs.Display.{extendedRow};
-ghost use Rattle.model.specs.State.{isScope, threadAt, stackAt, innermost};
-ghost use Rattle.model.specs.Scopes.{lastGeneration, reentered, opened, enteredArea, enterState, enterValue, enterChange};
+ghost use Rattle.model.specs.State.{threadAt, stackAt, innermost};
+ghost use Rattle.model.specs.Scopes.{lastGeneration, reentered, opened, enterState, enterValue, enterChange};
 ghost use Rattle.model.specs.Calls as calls;
-ghost use Rattle.tables.specs.Decode.{displayRow, putRow, Shaped};
+ghost use Rattle.tables.specs.Decode.{areaRecord, displayRow, putRow, Shaped};
 ghost use Rattle.model.proofs.Accepted.{Called};
 ghost use Rattle.tables.specs.Contract.{stateIn, before, Leaves, Usable, Changes, Answers};
-ghost use Rattle.entry.specs.Enter.{entryRest, thereRest, Openable, Enterable, pushedState};
+ghost use Rattle.entry.specs.Enter.{entryRest, thereRest, Enterable, pushedState};
 
 // The last generation of a scope, 2^44 - 1.
 const LAST_GENERATION: u64 = 17592186044415;
@@ -100,39 +99,7 @@ fn put_display(bytes: &mut Bytes, q: usize, p: usize, depth: Depth)
     held_displays::put_row(bytes, q, layout::display::extended(row, depth, q as u8));
 }
 
-// Area q is entered where p is the innermost scope; its generation after that. The area is written before
-// the display: the compiler then sees that its start and size are as they were read.
-fn enter_area(words: &mut Words, bytes: &mut Bytes, q: usize, p: usize) -> u64
-    requires { ⌜ Shaped (now words) (now bytes) × Openable (stateIn words bytes) q p ⌝ }
-    ensures value { λ r. ⌜ r ≡ enterValue (before words bytes) q ⌝ }
-    ensures state { λ r. ⌜ Leaves words bytes (enteredArea (before words bytes) q p) ⌝ }
-{
-    let x = held_areas::area_at(words, q);
-    if q < 2 {
-        return x.generation;
-    }
-    if 0 < x.count {
-        held_areas::put_area(words, q, reentered_area(x));
-        return x.generation;
-    }
-    let depth = Depth(held_areas::area_at(words, p).depth as usize);
-    let y = opened_area(x, p as u64, depth);
-    held_areas::put_area(words, q, y);
-    put_display(bytes, q, p, depth);
-    y.generation
-}
-
 // ---- the stack
-
-// The innermost scope as of an entry of area q, where p was it before.
-fn inner_after(q: u8, p: u8) -> u8
-    ensures { λ r. ⌜ r ≡ pick (isScope q) q p ⌝ }
-{
-    if 2 <= q {
-        return q;
-    }
-    p
-}
 
 // Area q goes on top of a stack, and beside it the innermost scope as of that entry. The length is written
 // before the entry: the compiler then sees that the kind is as it was read.
@@ -147,21 +114,88 @@ fn push(words: &mut Words, bytes: &mut Bytes, t: usize, q: u8, inner: u8)
     held_threads::put_entry(bytes, t, top, Entry { area: q, inner });
 }
 
-// ---- the call
+// ---- a scope is entered: what an accepted call does
 
-// The effect of an accepted entry, below the innermost scope.
-fn apply_enter(words: &mut Words, bytes: &mut Bytes, t: usize, q: usize, inner: u8) -> u64
-    requires { ⌜ Usable words bytes × Enterable (stateIn words bytes) t q × (inner ≡ innermost (stackAt (stateIn words bytes) t)) ⌝ }
+// Scope q is open and gets one entry more; its generation.
+fn reenter(words: &mut Words, bytes: &mut Bytes, t: usize, q: usize) -> u64
+    requires { ⌜ Shaped (now words) (now bytes) × Enterable (stateIn words bytes) t q × (2 ≤ q) × (0 < areaRecord (now words) q .count) ⌝ }
     ensures value { λ r. ⌜ r ≡ enterValue (before words bytes) q ⌝ }
     ensures state { λ r. ⌜ Leaves words bytes (enterState (before words bytes) t q) ⌝ }
 {
-    let generation = enter_area(words, bytes, q, inner as usize);
-    push(words, bytes, t, q as u8, inner_after(q as u8, inner));
-    generation
+    let x = held_areas::area_at(words, q);
+    held_areas::put_area(words, q, reentered_area(x));
+    push(words, bytes, t, q as u8, q as u8);
+    x.generation
 }
 
-// Op 04, after refusal 1: area q; the value is its generation. The innermost scope is looked up once, for
-// the checks and for the effect.
+// Scope q opens below p, the innermost scope; its generation. The display is written last: the words are
+// then all written before the bytes, and the compiler sees that what was read of them is as it was.
+fn open(words: &mut Words, bytes: &mut Bytes, t: usize, q: usize, p: usize) -> u64
+    requires scope { ⌜ Shaped (now words) (now bytes) × Enterable (stateIn words bytes) t q × (2 ≤ q) × (areaRecord (now words) q .count ≤ 0) ⌝ }
+    requires parent { ⌜ p ≡ innermost (stackAt (stateIn words bytes) t) ⌝ }
+    ensures value { λ r. ⌜ r ≡ enterValue (before words bytes) q ⌝ }
+    ensures state { λ r. ⌜ Leaves words bytes (enterState (before words bytes) t q) ⌝ }
+{
+    let depth = Depth(held_areas::area_at(words, p).depth as usize);
+    let y = opened_area(held_areas::area_at(words, q), p as u64, depth);
+    held_areas::put_area(words, q, y);
+    push(words, bytes, t, q as u8, q as u8);
+    put_display(bytes, q, p, depth);
+    y.generation
+}
+
+// Either of them.
+fn apply_enter(words: &mut Words, bytes: &mut Bytes, t: usize, q: usize, inner: u8) -> u64
+    requires scope { ⌜ Shaped (now words) (now bytes) × Enterable (stateIn words bytes) t q × (2 ≤ q) ⌝ }
+    requires parent { ⌜ inner ≡ innermost (stackAt (stateIn words bytes) t) ⌝ }
+    ensures value { λ r. ⌜ r ≡ enterValue (before words bytes) q ⌝ }
+    ensures state { λ r. ⌜ Leaves words bytes (enterState (before words bytes) t q) ⌝ }
+{
+    if 0 < held_areas::area_at(words, q).count {
+        return reenter(words, bytes, t, q);
+    }
+    open(words, bytes, t, q, inner as usize)
+}
+
+// ---- the call
+
+// A started thread enters the heap or immortal memory, which only adds an entry.
+fn enter_standing(words: &mut Words, bytes: &mut Bytes, t: usize, q: u64) -> Answer
+    requires { ⌜ Usable words bytes × Called (stateIn words bytes) t × (q < 2) ⌝ }
+    ensures { λ r. ⌜ Changes r words bytes (enterChange (before words bytes) t q) ⌝ }
+{
+    let inner = callers::top_entry(words, bytes, t).inner;
+    let refusal = check_there(words, bytes, t, q, inner);
+    if refusal != 0 {
+        return Answer {
+            status: refusal,
+            value: 0,
+        };
+    }
+    let generation = held_areas::area_at(words, q as usize).generation;
+    push(words, bytes, t, q as u8, inner);
+    Answer {
+        status: 0,
+        value: generation,
+    }
+}
+
+// A started thread enters a scope. The innermost scope is looked up once, for the checks and for the effect.
+fn enter_scope(words: &mut Words, bytes: &mut Bytes, t: usize, q: u64) -> Answer
+    requires { ⌜ Usable words bytes × Called (stateIn words bytes) t × (2 ≤ q) × (q < 64) ⌝ }
+    ensures { λ r. ⌜ Changes r words bytes (enterChange (before words bytes) t q) ⌝ }
+{
+    let inner = callers::top_entry(words, bytes, t).inner;
+    let status = check_there(words, bytes, t, q, inner);
+    if status != 0 {
+        return Answer { status, value: 0 };
+    }
+    let value = apply_enter(words, bytes, t, q as usize, inner);
+    Answer { status: 0, value }
+}
+
+// Op 04, after refusal 1: area q; the value is its generation. Scopes have a function of their own, so that
+// whether q is one is tested once.
 pub fn enter_on(words: &mut Words, bytes: &mut Bytes, t: u64, q: u64) -> Answer
     requires { ⌜ Usable words bytes ⌝ }
     ensures { λ r. ⌜ Changes r words bytes (enterChange (before words bytes) t q) ⌝ }
@@ -179,16 +213,10 @@ pub fn enter_on(words: &mut Words, bytes: &mut Bytes, t: u64, q: u64) -> Answer
             value: 0,
         };
     }
-    let inner = callers::top_entry(words, bytes, t as usize).inner;
-    let status = check_there(words, bytes, t as usize, q, inner);
-    if status != 0 {
-        return Answer { status, value: 0 };
+    if q < 2 {
+        return enter_standing(words, bytes, t as usize, q);
     }
-    let generation = apply_enter(words, bytes, t as usize, q as usize, inner);
-    Answer {
-        status: 0,
-        value: generation,
-    }
+    enter_scope(words, bytes, t as usize, q)
 }
 
 pub fn enter(

@@ -76,27 +76,28 @@ pub popped-holds : (w b : List ℕ) → Shaped w b → (t : ℕ) {x : ThreadWord
 unfolding popped
 popped-holds w b z t {x} h e = rw (kind-read w b t h e, len-read w b t h e, sub-one (x .len)) (state-thread w b t _ h z)
 
-module _ (s : State) (q : ℕ) where
-  left-threads : (t : ℕ) → threadAt (leftArea s q) t ≡ threadAt s t
-  unfolding leftArea withArea
-  left-threads t = cases (leb 2 q) (λ e. rw e refl) (λ e. rw e refl)
+-- ---- the stack, then the area: v are the words after the stack, whose top was an entry of area q
 
--- a stack has entries after the area as it had before
-pub left-some : (s : State) (v b : List ℕ) (t q : ℕ) → Holds v b (leftArea s q) → 0 < threadAt s t .len → 0 < threadAt (stateOf v b) t .len
-left-some s v b t q a h = rw (a .state, left-threads s q t) h
+module _ (w b : List ℕ) (t q : ℕ) {v : List ℕ} (a : Holds v b (withThread (stateOf w b) t (popped (threadAt (stateOf w b) t)))) (e : q ≡ current (stackAt (stateOf w b) t)) where
+  popped-area : areaAt (stateOf v b) q ≡ areaAt (stateOf w b) (current (stackAt (stateOf w b) t))
+  unfolding withThread
+  popped-area = ap (λ (s : State). areaAt s q) (a .state) ∙ ap (areaAt (stateOf w b)) e
 
--- the area, then the stack
-pub exited-holds : (w b v v′ : List ℕ) (t q : ℕ) → q ≡ current (stackAt (stateOf w b) t)
-    → Holds v b (leftArea (stateOf w b) q) → Holds v′ b (withThread (stateOf v b) t (popped (threadAt (stateOf v b) t))) → Holds v′ b (exitState (stateOf w b) t)
-unfolding exitState
-exited-holds w b v v′ t q e a k = record {
-  sized = k .sized;
-  state =
-      k .state
-      ∙ ap (λ (s : State). withThread s t (popped (threadAt s t))) (a .state)
-      ∙ rw (left-threads (stateOf w b) q t, e) refl;
-}
+  -- a scope that is left is open
+  pub popped-open : (2 ≤ current (stackAt (stateOf w b) t) → 0 < areaAt (stateOf w b) (current (stackAt (stateOf w b) t)) .count)
+      → 2 ≤ q → 0 < areaAt (stateOf v b) q .count
+  popped-open o h = rw popped-area (o (rw (← e) h))
 
-pub exited-value : (s : State) (t q n : ℕ) → q ≡ current (stackAt s t) → n ≡ pick (isScope q) (pred (areaAt s q .count)) 0 → n ≡ exitValue s t
-unfolding exitValue
-exited-value s t q n e f = f ∙ ap (λ (a : ℕ). pick (isScope a) (pred (areaAt s a .count)) 0) e
+  pub exited-holds : {v′ : List ℕ} → Holds v′ b (leftArea (stateOf v b) q) → Holds v′ b (exitState (stateOf w b) t)
+  unfolding exitState leftArea withArea withThread
+  exited-holds k = record {
+    sized = k .sized;
+    state =
+        k .state
+        ∙ ap (λ (s : State). leftArea s q) (a .state)
+        ∙ rw (← e) (cases (leb 2 q) (λ f. rw f refl) (λ f. rw f refl));
+  }
+
+  pub exited-value : {n : ℕ} → n ≡ pick (isScope q) (pred (areaAt (stateOf v b) q .count)) 0 → n ≡ exitValue (stateOf w b) t
+  unfolding exitValue
+  exited-value f = f ∙ rw (popped-area, e) refl

@@ -71,15 +71,16 @@ fn pop(words: &mut Words, bytes: &Bytes, t: usize)
     held_threads::put_thread(words, t, ThreadWords { kind: h.kind, len });
 }
 
+// The effect of an accepted exit. The stack is written before the area: the length is then the one that was read for
+// the checks.
 fn apply_exit(words: &mut Words, bytes: &Bytes, t: usize) -> u64
     requires { ⌜ Usable words bytes × (t < 16) × (0 < threadAt (stateIn words bytes) t .len) ⌝ }
     ensures value { λ r. ⌜ r ≡ exitValue (before words bytes) t ⌝ }
     ensures state { λ r. ⌜ Leaves words bytes (exitState (before words bytes) t) ⌝ }
 {
     let top = callers::top_entry(words, bytes, t).area;
-    let count = leave_area(words, bytes, top as usize);
     pop(words, bytes, t);
-    count
+    leave_area(words, bytes, top as usize)
 }
 
 // After refusal 1.

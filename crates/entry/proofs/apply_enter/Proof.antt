@@ -1,37 +1,31 @@
--- `apply_enter` meets its contract: the area is entered, then the stack gets its entry.
-use denote.Ref.{now}
+-- `apply_enter` meets its contract: a scope that is open, or one that opens.
+use mathlib.Core.Path.{subst}
+use Prim.Native.Nat.{_<_, _≤_}
 use borrow.Author.Needs.{needs}
-use Rattle.tables.specs.Decode.{stateOf}
-use Rattle.entry.specs.Entered.{entered-room, entered-holds}
+use Rattle.model.specs.declared.Area.{Area}
 use Rattle.entry.proofs.apply_enter.Statement.{statement}
 use Rattle.entry.proofs.apply_enter.Tie as tie
 
-enter-area-requires : tie.Need-enter-area-requires
-enter-area-requires c κs =
-    let o = c .before .before in
-    (o .pre .0 .sized, rw (o .pre .2) (o .pre .1 .opens))
+reenter-requires : tie.Need-reenter-requires
+reenter-requires c κs =
+    let d = c .before .before in
+    let x = d .before .before in
+    let o = x .before .before in
+    (o .pre .0 .0, o .pre .0 .1, o .pre .0 .2, subst (λ (y : Area). 0 < y .count) (x .area-at .ensures) (d .if1 .taken))
 
-push-requires : tie.Need-push-requires
-push-requires c κs =
-    let o = c .before .before .before .before .before .before in
-    let a = o .args in
-    let l = c .before .before .before .enter-area .ensures .1 in
-    (l .sized, o .pre .1 .thread, entered-room (stateOf (now (a .words)) (now (a .bytes))) _ _ (a .t) (a .q) _ l (o .pre .1 .room))
-
-returns : tie.Need-returns
-returns c =
-    let s = c .before .before .before .before .before .before .before in
-    let a = s .args in
-    let o = c .before .before .before .before .enter-area .ensures in
-    (o .0, entered-holds (now (a .words)) (now (a .bytes)) _ _ _ _ (a .t) (a .q) _ _ (s .pre .2) (c .before .inner-after .ensures) (o .1) (c .push .ensures))
+open-requires : tie.Need-open-requires
+open-requires c κs =
+    let d = c .before .before in
+    let x = d .before .before in
+    let o = x .before .before in
+    ((o .pre .0 .0, o .pre .0 .1, o .pre .0 .2, subst (λ (y : Area). y .count ≤ 0) (x .area-at .ensures) (d .if1 .left)), o .pre .1)
 
 pub apply-enter-spec : {M : Type 1} → statement M
 apply-enter-spec =
     tie.close
     (tie.spec
-    enter-area-requires
-    (λ c. search needs)
-    (λ c. search needs)
-    (λ c κs. search needs)
-    push-requires
-    returns)
+    (λ c κs. c .before .pre .0 .1 .area)
+    reenter-requires
+    (λ c. c .reenter .ensures)
+    open-requires
+    (λ c. c .open .ensures))
