@@ -1,5 +1,5 @@
-// Set-up: the first state, returned by value. The buffers are lent to read, so that no word can be
-// written.
+// Set-up: the first state, written into the host's own tables or returned by value. The buffers are
+// lent to read, so that no word of them can be written.
 use model::Area;
 use model::Lengths;
 use tables::BYTES;
@@ -58,7 +58,7 @@ fn check_set_up(h: u64, i: u64, n: Lengths) -> u64
     0
 }
 
-// The words of the first state, whatever stood there.
+// The words of the first state, whatever they were.
 fn put_first_words(words: &mut Words, h: u64, i: u64, n: Lengths)
     ensures { λ r. ⌜ now (words .exit) ≡ firstWords h i n ⌝ }
 {
@@ -69,7 +69,7 @@ fn put_first_words(words: &mut Words, h: u64, i: u64, n: Lengths)
 }
 
 // The words of what set-up gives: of an accepted one, or of one with all lengths 0.
-fn put_words(words: &mut Words, status: u64, h: u64, i: u64, n: Lengths)
+fn put_set_up_words(words: &mut Words, status: u64, h: u64, i: u64, n: Lengths)
     requires { ⌜ status ≡ setUpStatus h i n ⌝ }
     ensures { λ r. ⌜ Holds (now (words .exit)) firstBytes (setUpState h i n) ⌝ }
 {
@@ -85,8 +85,8 @@ fn put_words(words: &mut Words, status: u64, h: u64, i: u64, n: Lengths)
     put_first_words(words, 0, 0, none);
 }
 
-// The bytes: no entry, no display, and the constant table of rights.
-fn put_bytes(bytes: &mut Bytes)
+// The bytes, whatever they were: no entry, no display, and the constant table of rights.
+fn put_first_bytes(bytes: &mut Bytes)
     ensures { λ r. ⌜ now (bytes .exit) ≡ firstBytes ⌝ }
 {
     *bytes = [0u8; BYTES];
@@ -94,7 +94,7 @@ fn put_bytes(bytes: &mut Bytes)
     held_rights::put_rights(bytes, &table);
 }
 
-// Set-up of the host's own tables, whatever they held. Yields the status.
+// Set-up in place: the tables are written, whatever they held. Yields the status.
 pub fn set_up_in_place(
     words: &mut Words,
     bytes: &mut Bytes,
@@ -112,12 +112,12 @@ pub fn set_up_in_place(
         map: map.len() as u64,
     };
     let status = check_set_up(h, i, n);
-    put_words(words, status, h, i, n);
-    put_bytes(bytes);
+    put_set_up_words(words, status, h, i, n);
+    put_first_bytes(bytes);
     status
 }
 
-// The same with the tables by value.
+// Set-up by value.
 pub fn set_up(permanent: &[u64], scratch: &[u64], map: &[u64], h: u64, i: u64) -> SetUp
     ensures { λ r. ⌜ Begun (r .status) (r .words) (r .bytes) h i (lengthsOf (supplied permanent scratch map)) ⌝ }
 {

@@ -8,7 +8,7 @@ use Rattle.setup.proofs.set_up_in_place.Tie as tie
 
 returns : tie.Need-returns
 returns c =
-    let h = rw (← (c .put-bytes .ensures)) at (c .before .before .put-words .ensures) in
+    let h = rw (← (c .put-first-bytes .ensures)) at (c .before .before .put-set-up-words .ensures) in
     record {
       status-is = c .before .before .before .before .check-set-up .ensures;
       holds = h;
