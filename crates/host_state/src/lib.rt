@@ -28,6 +28,22 @@ pub extern "C" fn scopes_set_up(
     setup::set_up(permanent, scratch, map, h, i)
 }
 
+// Set-up in place: the host's own tables, whatever they held. The answer is the status.
+#[no_mangle]
+pub extern "C" fn scopes_set_up_in_place(
+    words: &mut Words,
+    bytes: &mut Bytes,
+    permanent: &[u64],
+    scratch: &[u64],
+    map: &[u64],
+    h: u64,
+    i: u64,
+) -> u64
+    ensures { λ r. ⌜ Begun r (now (words .exit)) (now (bytes .exit)) h i (lengthsOf (supplied permanent scratch map)) ⌝ }
+{
+    setup::set_up_in_place(words, bytes, permanent, scratch, map, h, i)
+}
+
 // Op 01: thread t starts, of a kind.
 #[no_mangle]
 pub extern "C" fn scopes_start(

@@ -1,5 +1,5 @@
-// Set-up: the first state, returned by value. The buffers are lent to read, so that no word can be
-// written.
+// Set-up: the first state, written into the host's own tables or returned by value. The buffers are
+// lent to read, so that no word of them can be written.
 use model::Area;
 use model::Lengths;
 use tables::BYTES;
@@ -9,7 +9,7 @@ use tables::Words;
 ghost use mathlib.Core.Path.{_≡_};
 ghost use Rattle.model.specs.SetUp.{setUpStatus, setUpState, standing, lengthsOf};
 ghost use Rattle.tables.specs.Decode.{Holds};
-ghost use Rattle.tables.specs.Contract.{memoryOf};
+ghost use Rattle.tables.specs.Contract.{supplied};
 ghost use Rattle.setup.specs.First.{firstWords, firstBytes, Begun};
 
 // The status, and the two tables that hold the state.
@@ -58,48 +58,53 @@ fn check_set_up(h: u64, i: u64, n: Lengths) -> u64
     0
 }
 
-// The words of the first state.
-fn first_words(h: u64, i: u64, n: Lengths) -> Words
-    ensures { λ r. ⌜ r ≡ firstWords h i n ⌝ }
+// The words of the first state, whatever they were.
+fn put_first_words(words: &mut Words, h: u64, i: u64, n: Lengths)
+    ensures { λ r. ⌜ now (words .exit) ≡ firstWords h i n ⌝ }
 {
-    let mut words = [0u64; WORDS];
-    held_areas::put_area(&mut words, 0, standing_area(0, h));
-    held_areas::put_area(&mut words, 1, standing_area(h, i));
-    held_lengths::put_lengths(&mut words, n);
-    words
+    *words = [0u64; WORDS];
+    held_areas::put_area(words, 0, standing_area(0, h));
+    held_areas::put_area(words, 1, standing_area(h, i));
+    held_lengths::put_lengths(words, n);
 }
 
 // The words of what set-up gives: of an accepted one, or of one with all lengths 0.
-fn set_up_words(status: u64, h: u64, i: u64, n: Lengths) -> Words
+fn put_set_up_words(words: &mut Words, status: u64, h: u64, i: u64, n: Lengths)
     requires { ⌜ status ≡ setUpStatus h i n ⌝ }
-    ensures { λ r. ⌜ Holds r firstBytes (setUpState h i n) ⌝ }
+    ensures { λ r. ⌜ Holds (now (words .exit)) firstBytes (setUpState h i n) ⌝ }
 {
     if status == 0 {
-        return first_words(h, i, n);
+        put_first_words(words, h, i, n);
+        return;
     }
-    first_words(
-        0,
-        0,
-        Lengths {
-            permanent: 0,
-            scratch: 0,
-            map: 0,
-        },
-    )
+    let none = Lengths {
+        permanent: 0,
+        scratch: 0,
+        map: 0,
+    };
+    put_first_words(words, 0, 0, none);
 }
 
-// The bytes: no entry, no display, and the constant table of rights.
-fn first_bytes() -> Bytes
-    ensures { λ r. ⌜ r ≡ firstBytes ⌝ }
+// The bytes, whatever they were: no entry, no display, and the constant table of rights.
+fn put_first_bytes(bytes: &mut Bytes)
+    ensures { λ r. ⌜ now (bytes .exit) ≡ firstBytes ⌝ }
 {
-    let mut bytes = [0u8; BYTES];
+    *bytes = [0u8; BYTES];
     let table = rights::built_in();
-    held_rights::put_rights(&mut bytes, &table);
-    bytes
+    held_rights::put_rights(bytes, &table);
 }
 
-pub fn set_up(permanent: &[u64], scratch: &[u64], map: &[u64], h: u64, i: u64) -> SetUp
-    ensures { λ r. ⌜ Begun (r .status) (r .words) (r .bytes) h i (lengthsOf (memoryOf (now (permanent .entry)) (now (scratch .entry)) (now (map .entry)))) ⌝ }
+// Set-up in place: the tables are written, whatever they held. Yields the status.
+pub fn set_up_in_place(
+    words: &mut Words,
+    bytes: &mut Bytes,
+    permanent: &[u64],
+    scratch: &[u64],
+    map: &[u64],
+    h: u64,
+    i: u64,
+) -> u64
+    ensures { λ r. ⌜ Begun r (now (words .exit)) (now (bytes .exit)) h i (lengthsOf (supplied permanent scratch map)) ⌝ }
 {
     let n = Lengths {
         permanent: permanent.len() as u64,
@@ -107,8 +112,18 @@ pub fn set_up(permanent: &[u64], scratch: &[u64], map: &[u64], h: u64, i: u64) -
         map: map.len() as u64,
     };
     let status = check_set_up(h, i, n);
-    let words = set_up_words(status, h, i, n);
-    let bytes = first_bytes();
+    put_set_up_words(words, status, h, i, n);
+    put_first_bytes(bytes);
+    status
+}
+
+// Set-up by value.
+pub fn set_up(permanent: &[u64], scratch: &[u64], map: &[u64], h: u64, i: u64) -> SetUp
+    ensures { λ r. ⌜ Begun (r .status) (r .words) (r .bytes) h i (lengthsOf (supplied permanent scratch map)) ⌝ }
+{
+    let mut words = [0u64; WORDS];
+    let mut bytes = [0u8; BYTES];
+    let status = set_up_in_place(&mut words, &mut bytes, permanent, scratch, map, h, i);
     SetUp {
         status,
         words,

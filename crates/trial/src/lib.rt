@@ -1,13 +1,17 @@
 // A small host in Rattle over the exported functions: what it holds at the end is promised to be what
 // the theorem over every list speaks of. So the theorem's hypotheses are met by real calls.
-use setup::SetUp;
+use tables::Bytes;
+use tables::Words;
 ghost use mathlib.Core.Path.{_≡_};
 ghost use Rattle.tables.specs.Contract.{returned};
 ghost use Rattle.trial.specs.Trial.{Tried};
 
-// Set-up; then a text is loaded as the table of rights, a real-time thread starts, makes an object of
-// one slot and two data words, and asks for the status of showing null.
+// Set-up in the host's own tables; then a text is loaded as the table of rights, a real-time thread
+// starts, makes an object of one slot and two data words, and asks for the status of showing null.
+// The answer is the status of set-up.
 pub fn trial(
+    words: &mut Words,
+    bytes: &mut Bytes,
     permanent: &mut [u64],
     scratch: &mut [u64],
     map: &mut [u64],
@@ -15,22 +19,16 @@ pub fn trial(
     h: u64,
     i: u64,
     t: u64,
-) -> SetUp
-    ensures { λ r. ⌜ (r .status ≡ 0 → Tried (r .words) (r .bytes) (returned permanent scratch map) (now (text .entry)) t) ⌝ }
+) -> u64
+    ensures { λ r. ⌜ (r ≡ 0 → Tried (now (words .exit)) (now (bytes .exit)) (returned permanent scratch map) (now (text .entry)) t) ⌝ }
 {
-    let first = host_state::scopes_set_up(permanent, scratch, map, h, i);
-    if first.status != 0 {
-        return first;
+    let status = host_state::scopes_set_up_in_place(words, bytes, permanent, scratch, map, h, i);
+    if status != 0 {
+        return status;
     }
-    let mut words = first.words;
-    let mut bytes = first.bytes;
-    host_tables::scopes_load_rights(&words, &mut bytes, text);
-    host_state::scopes_start(&mut words, &bytes, permanent, scratch, map, t, 2);
-    host_objects::scopes_allocate(&mut words, &bytes, permanent, scratch, map, t, 1, 2);
-    host_objects::scopes_view_status(&words, &bytes, permanent, scratch, map, t, 0);
-    SetUp {
-        status: 0,
-        words,
-        bytes,
-    }
+    host_tables::scopes_load_rights(words, bytes, text);
+    host_state::scopes_start(words, bytes, permanent, scratch, map, t, 2);
+    host_objects::scopes_allocate(words, bytes, permanent, scratch, map, t, 1, 2);
+    host_objects::scopes_view_status(words, bytes, permanent, scratch, map, t, 0);
+    status
 }

@@ -19,13 +19,13 @@ returns-2 c = λ z.
     let second : tie.After-scopes-allocate = c .before .before .before .before .before .before .before .before .before .before .before .before in
     let first : tie.After-scopes-start = second .before .before .before .before .before .before in
     let loaded : tie.After-scopes-load-rights = first .before .before .before .before .before .before in
-    let accepted : tie.Else1 = loaded .before .before .before .before .before in
+    let accepted : tie.Else1 = loaded .before .before .before in
     record {
       lines = _;
       served = called
           (called
           (called
-          (called (began _ _ (accepted .before .before .scopes-set-up .ensures) (accepted .if1 .left)) (loaded .scopes-load-rights .ensures _))
+          (called (began _ _ (accepted .before .scopes-set-up-in-place .ensures) (accepted .if1 .left)) (loaded .scopes-load-rights .ensures _))
           (first .scopes-start .ensures))
           (second .scopes-allocate .ensures))
           (c .scopes-view-status .ensures);

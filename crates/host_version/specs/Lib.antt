@@ -1,0 +1,2 @@
+-- The version of the core.
+pub mod Version
