@@ -539,7 +539,8 @@ static inline scopes_answer scopes_core_allocate(scopes_core *core, uint64_t thr
 }
 
 SCOPES_RESULT SCOPES_NONNULL(1)
-static inline scopes_answer scopes_core_store(scopes_core *core, uint64_t thread, uint64_t object, uint64_t slot, uint64_t target)
+static inline scopes_answer scopes_core_store(
+    scopes_core *core, uint64_t thread, uint64_t object, uint64_t slot, uint64_t target)
 {
     return scopes_store(SCOPES_PARTS(core), thread, object, slot, target);
 }
@@ -551,7 +552,8 @@ static inline scopes_answer scopes_core_load(const scopes_core *core, uint64_t t
 }
 
 SCOPES_RESULT SCOPES_NONNULL(1)
-static inline scopes_answer scopes_core_write(scopes_core *core, uint64_t thread, uint64_t object, uint64_t index, uint64_t word)
+static inline scopes_answer scopes_core_write(
+    scopes_core *core, uint64_t thread, uint64_t object, uint64_t index, uint64_t word)
 {
     return scopes_write(SCOPES_PARTS(core), thread, object, index, word);
 }
