@@ -24,8 +24,9 @@ pub struct Core<'m> {
 // no memory of their own, so they may be called from any thread.
 unsafe impl Send for Core<'_> {}
 
-// SAFETY: functions that take a `&Core` pass const pointers alone to the exported ones; these only
-// read, and any number of them may run at once (include/scopes.h). The others take `&mut Core`.
+// SAFETY: functions that take a `&Core` pass const pointers alone to the exported ones (`looks!`);
+// these only read, and any number of them may run at once (include/scopes.h). The others take a
+// `&mut Core`.
 unsafe impl Sync for Core<'_> {}
 
 /// The three buffers, borrowed from the host.
@@ -35,50 +36,66 @@ pub struct Memory<'m> {
     pub map: &'m mut [u64],
 }
 
-/// Calls an exported function on a record's tables, its buffers and numbers.
+/// Calls an exported function on tables, a record's buffers (as const pointers, where that is said)
+/// and numbers.
 macro_rules! call {
-    ($exported:ident, $words:expr, $bytes:expr, $record:expr, $($number:ident),*) => {
+    ($exported:ident($words:expr, $bytes:expr, $record:expr $(, as $const:ident)?; $($number:ident),*)) => {
         $exported(
             $words,
             $bytes,
-            $record.permanent,
+            $record.permanent$(.$const())?,
             $record.permanent_len,
-            $record.scratch,
+            $record.scratch$(.$const())?,
             $record.scratch_len,
-            $record.map,
+            $record.map$(.$const())?,
             $record.map_len,
             $($number),*
         )
     };
 }
 
-/// Safe functions over exported ones: the core is borrowed, and its tables lent, as declared.
-macro_rules! safe {
-    ($(fn $name:ident(&$($mut:ident)?; $($number:ident),*) -> $answer:ty = $exported:ident($words:ident $bytes:ident);)*) => {
-        $(pub fn $name(core: &$($mut)? Core, $($number: u64),*) -> $answer {
-            let record = &$($mut)? core.record;
-            let (words, bytes) = (record.words.$words(), record.bytes.$bytes());
+/// Safe functions over exported ones that change something.
+macro_rules! changes {
+    ($(fn $name:ident($($number:ident),*) = $exported:ident;)*) => {
+        $(pub fn $name(core: &mut Core, $($number: u64),*) -> Answer {
+            let record = &mut core.record;
+            let (words, bytes) = (record.words.as_mut_ptr(), record.bytes.as_mut_ptr());
             // SAFETY: the tables are those of a state and have their sizes, each buffer is borrowed by
-            // the core and has its length (see above); the core is borrowed for writing where the
-            // function writes anything, and for the call in any case.
-            unsafe { call!($exported, words, bytes, record, $($number),*) }
+            // the core and has its length (see above), and all of them are borrowed for writing.
+            unsafe { call!($exported(words, bytes, record; $($number),*)) }
         })*
     };
 }
 
-safe! {
-    fn start(&mut; thread, kind) -> Answer = scopes_start(as_mut_ptr as_ptr);
-    fn end(&mut; thread) -> Answer = scopes_end(as_mut_ptr as_ptr);
-    fn make(&mut; thread, area, size) -> Answer = scopes_make(as_mut_ptr as_ptr);
-    fn enter(&mut; thread, area) -> Answer = scopes_enter(as_mut_ptr as_mut_ptr);
-    fn exit(&mut; thread) -> Answer = scopes_exit(as_mut_ptr as_ptr);
-    fn allocate(&mut; thread, slots, data_words) -> Answer = scopes_allocate(as_mut_ptr as_ptr);
-    fn store(&mut; thread, object, slot, target) -> Answer = scopes_store(as_ptr as_ptr);
-    fn load(&; thread, object, slot) -> Answer = scopes_load(as_ptr as_ptr);
-    fn write(&mut; thread, object, index, word) -> Answer = scopes_write(as_ptr as_ptr);
-    fn read(&; thread, object, index) -> Answer = scopes_read(as_ptr as_ptr);
-    fn view_status(&; thread, object) -> Answer = scopes_view_status(as_ptr as_ptr);
-    fn view_place(&; thread, object) -> View = scopes_view_place(as_ptr as_ptr);
+/// Safe functions over exported ones that only look: every pointer is const.
+macro_rules! looks {
+    ($(fn $name:ident($($number:ident),*) -> $answer:ty = $exported:ident;)*) => {
+        $(pub fn $name(core: &Core, $($number: u64),*) -> $answer {
+            let record = &core.record;
+            let (words, bytes) = (record.words.as_ptr(), record.bytes.as_ptr());
+            // SAFETY: the tables and buffers as above; nothing is written, so that calls by other
+            // threads which share the core may run beside this one.
+            unsafe { call!($exported(words, bytes, record, as cast_const; $($number),*)) }
+        })*
+    };
+}
+
+changes! {
+    fn start(thread, kind) = scopes_start;
+    fn end(thread) = scopes_end;
+    fn make(thread, area, size) = scopes_make;
+    fn enter(thread, area) = scopes_enter;
+    fn exit(thread) = scopes_exit;
+    fn allocate(thread, slots, data_words) = scopes_allocate;
+    fn store(thread, object, slot, target) = scopes_store;
+    fn write(thread, object, index, word) = scopes_write;
+}
+
+looks! {
+    fn load(thread, object, slot) -> Answer = scopes_load;
+    fn read(thread, object, index) -> Answer = scopes_read;
+    fn view_status(thread, object) -> Answer = scopes_view_status;
+    fn view_place(thread, object) -> View = scopes_view_place;
 }
 
 /// Sets a core up in a place; yields the status beside it. A refused set-up gives a core too, whose
@@ -102,14 +119,7 @@ pub fn set_up_in<'p, 'm>(
         (&raw mut (*record).map_len).write(memory.map.len());
         let words = (&raw mut (*record).words).cast();
         let bytes = (&raw mut (*record).bytes).cast();
-        let status = call!(
-            scopes_set_up_in_place,
-            words,
-            bytes,
-            (*record),
-            heap,
-            immortal
-        );
+        let status = call!(scopes_set_up_in_place(words, bytes, (*record); heap, immortal));
         (status, place.assume_init_mut())
     }
 }
