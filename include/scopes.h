@@ -39,8 +39,8 @@
  * Interrupts. There is no lock, no errno, no memory of the functions' own, and no floating-point number; of the C library
  * they call memset and memcpy at most. So a call may be made from an interrupt or signal handler, if the code that was
  * interrupted was in no call on that state, or both calls only read. The functions use SSE registers (xmm) and no x87, MMX
- * or AVX ones: a handler that calls them saves these. They also use the red zone of the System V convention: a handler
- * that runs on the stack of interrupted code leaves the 128 bytes below its stack pointer alone.
+ * or AVX ones: a handler that calls them saves these, and those of the host's own memset. They also use the red zone of the
+ * System V convention: a handler on the stack of interrupted code leaves the 128 bytes below its stack pointer alone.
  *
  * Threads are numbers that the host gives to its own threads; a call may be made on behalf of any of them.
  */
@@ -196,7 +196,8 @@ static inline const char *scopes_status_name(uint64_t status)
  *    3        IllegalThreadStateException
  *    4        none: a thread's kind is its class
  *    5        U or R: MemoryAccessError, as for a no-heap thread that meets a heap reference
- *             E or A: InaccessibleAreaException is nearest, which the RTSJ has for an area that is not on the scope stack
+ *             E or A: InaccessibleAreaException is nearest, which the RTSJ has for an area that is not on the scope stack;
+ *             where an ordinary thread enters a scope, IllegalThreadStateException
  *    6, 7     none: an area is an object
  *    8        size 0: IllegalArgumentException; no room: OutOfMemoryError
  *    9, 17    none; ResourceLimitError is nearest

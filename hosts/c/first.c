@@ -18,18 +18,16 @@ static int refused(const char *call, uint64_t status)
     return status != SCOPES_OK;
 }
 
-/* A sample's three points lie in the scope, which the last exit empties. */
+/* Three points of a sample, in the current scope. */
 static int measure(void)
 {
-    if (refused("enter", scopes_core_enter(&core, METER, SAMPLE).status))
-        return 1;
     scopes_answer points = scopes_core_allocate(&core, METER, 0, 3); /* no slot, 3 data words */
-    int failed = refused("allocate", points.status)
-        || refused("write", scopes_core_write(&core, METER, points.value, 0, 41).status);
+    if (refused("allocate", points.status) || refused("write", scopes_core_write(&core, METER, points.value, 0, 41).status))
+        return 1;
     scopes_span span = scopes_core_view(&core, METER, points.value); /* the words where they lie, no copy */
     for (size_t i = 0; i < span.len; i++)
         printf("point %zu: %" PRIu64 "\n", i, span.words[i]);
-    return refused("exit", scopes_core_exit(&core, METER).status) || failed;
+    return refused("view", span.status);
 }
 
 int main(void)
@@ -41,5 +39,7 @@ int main(void)
     return refused("set-up", scopes_core_set_up(&core, permanent, PERMANENT, scratch, SCRATCH, map, MAP, HEAP, IMMORTAL))
         || refused("start", scopes_core_start(&core, METER, SCOPES_REAL_TIME).status)
         || refused("make", scopes_core_make(&core, METER, SAMPLE, 32).status)
-        || measure();
+        || refused("enter", scopes_core_enter(&core, METER, SAMPLE).status)
+        || measure()
+        || refused("exit", scopes_core_exit(&core, METER).status); /* the last thread leaves: the scope is emptied */
 }

@@ -7,19 +7,11 @@
 enum { HEAP = 32, IMMORTAL = 32, PERMANENT = HEAP + IMMORTAL, SCRATCH = 64, MAP = SCOPES_MAP_WORDS(PERMANENT, SCRATCH) };
 enum { THREAD = 0, SCOPE = 2 };
 
-static const char DIGITS[] = "111100110000" "111111111111" "000011111111";
+/* The digits of the built-in rights table. */
+static const uint8_t digits[] = "111100110000" "111111111111" "000011111111";
 
 static uint64_t permanent[PERMANENT], scratch[SCRATCH], map[MAP];
 static scopes_core core;
-
-static scopes_answer load_rights(scopes_core *into, const char *digits)
-{
-    uint8_t text[64];
-    size_t len = strlen(digits);
-    CHECK(len <= sizeof text);
-    memcpy(text, digits, len);
-    return scopes_core_load_rights(into, text, len);
-}
 
 static int is_answer(scopes_answer answer, uint64_t value)
 {
@@ -49,7 +41,8 @@ static void every_call(void)
 {
     uint64_t outer, inner;
     CHECK_STATUS(scopes_core_set_up(&core, permanent, PERMANENT, scratch, SCRATCH, map, MAP, HEAP, IMMORTAL), SCOPES_OK);
-    CHECK(is_answer(load_rights(&core, DIGITS), 0));
+    scopes_answer loaded = scopes_core_load_rights(&core, digits, SCOPES_RIGHTS_DIGITS);
+    CHECK(is_answer(loaded, 0));
     CHECK(is_answer(scopes_core_start(&core, THREAD, SCOPES_REAL_TIME), 0));
     CHECK(is_answer(scopes_core_make(&core, THREAD, SCOPE, 16), 0));
     outer = scopes_core_allocate(&core, THREAD, 1, 2).value;
@@ -82,7 +75,7 @@ static void null_buffers(void)
 {
     CHECK_STATUS(scopes_core_set_up(&core, NULL, 0, NULL, 0, NULL, 0, 0, 0), SCOPES_OK);
     CHECK_ANSWER(scopes_core_load_rights(&core, NULL, 0), SCOPES_TABLE);
-    CHECK(is_answer(load_rights(&core, DIGITS), 0));
+    CHECK(is_answer(scopes_core_load_rights(&core, digits, SCOPES_RIGHTS_DIGITS), 0));
     CHECK(is_answer(scopes_core_start(&core, THREAD, SCOPES_REAL_TIME), 0));
     CHECK_ANSWER(scopes_core_make(&core, THREAD, SCOPE, 1), SCOPES_SIZE);
     CHECK(is_answer(scopes_core_enter(&core, THREAD, SCOPES_IMMORTAL), 1));

@@ -39,7 +39,9 @@ fn relative(named: OsString, home: PathBuf) -> Vec<PathBuf> {
     println!("cargo:rerun-if-env-changed=PWD");
     let run_in = env::var_os("PWD").map(PathBuf::from);
     let starts = [run_in, workspace(), Some(home)].into_iter().flatten();
-    starts.map(|start| start.join(&named)).collect()
+    let mut folders: Vec<PathBuf> = starts.map(|start| start.join(&named)).collect();
+    folders.dedup();
+    folders
 }
 
 /// The workspace's root, as far as the place of its build output tells.
