@@ -4,13 +4,13 @@
  * the archive, which take a state and its buffers one by one; what a call does is said there. README.md, "From C", shows
  * how to build and link. For C11, C99 with gcc or clang, and C++11, or later ones.
  *
- * What is proved. The archive is compiled from proved code (crates/host_state, host_objects, host_tables, host_stack). For
- * any arguments whatever, each call's status, its value, the state that it leaves and every word of the three lent buffers
- * are those that the specification (document 01) defines; a refused call changes nothing; no call touches memory outside
- * what it is lent; every call ends (the contract `Answers` of each function). Over every list of calls, by any threads and
- * under any rights that are loaded, of the tables and buffers that the host then holds: a thread in a scope stands in all
- * its ancestors, no reference outlives its object, and a dead handle is never accepted again (the theorem `served-claims`,
- * crates/served). Not covered: the compiler's back end, the few lines of C below, and a host that breaks these rules.
+ * What is proved. The archive is compiled from proved code (the crates host_.. of the folder crates). For any arguments
+ * whatever, each call's status, its value, the state that it leaves and every word of the three lent buffers are those that
+ * the specification (document 01) defines; a refused call changes nothing; no call touches memory outside what it is lent;
+ * every call ends (the contract `Answers` of each function). Over every list of calls, by any threads and under any rights
+ * that are loaded, of the tables and buffers that the host then holds: a thread in a scope stands in all its ancestors, no
+ * reference outlives its object, and a dead handle is never accepted again (the theorem `served-claims`, crates/served).
+ * Not covered: the compiler's back end, the few lines of C below, and a host that breaks these rules.
  *
  * What the caller owes. A proof about these functions rests on it, and C cannot check it:
  *  - A state comes only from a set-up and from the calls made with it since. Never write into its words or bytes, never
@@ -106,7 +106,7 @@ uint64_t scopes_version(void);
 #define SCOPES_STACK_ENTRIES 32u      /* entries of one thread's stack */
 #define SCOPES_STORE_WORDS 16384u     /* most words of the permanent store, and of the scratch store */
 #define SCOPES_RIGHTS_DIGITS 36u      /* digits of a rights table */
-#define SCOPES_CALL_STACK 384u        /* most bytes of the machine's stack that a call takes */
+#define SCOPES_CALL_STACK 256u        /* most bytes of the machine's stack that a call takes */
 #define SCOPES_LAST_GENERATION 17592186044415u /* 2^44 - 1: a scope is opened at most so often */
 
 /* Words of the start map for stores of these lengths. */
