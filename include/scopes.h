@@ -30,7 +30,8 @@
  * tables, refused or not, since a refused one gives a state too; and a refused push or pop may write its record as it was.
  *
  * Stack. No call takes more than SCOPES_CALL_STACK bytes, its arguments and its return address included, the C library's
- * memset apart (hosts/c/stack.c measures each). scopes_set_up gives its state by value: 7.5 KB more, the caller's own.
+ * memset apart (hosts/c/stack.c measures each). Without optimization a call over a handle has a frame of its own besides.
+ * scopes_set_up gives its state by value: 7.5 KB more, the caller's own.
  *
  * Time. Constant, whatever the depth and the number of threads, areas and objects; an accepted allocation is linear in the
  * object's words. A set-up writes the 7.5 KB of its tables. A list of n calls, such as the frames of target/bin/frames, is

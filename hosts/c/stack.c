@@ -1,6 +1,6 @@
-/* How much of the machine's stack each call takes: it is made on a painted stack, and the paint that is gone is counted. A
- * call that takes more than SCOPES_CALL_STACK fails. Arguments and return address are in it; memset has little of its own,
- * since the program is linked so that no symbol is looked up at the first call. */
+/* How much of the machine's stack each call takes: it is made on a painted stack, and the paint that is gone is counted,
+ * arguments and return address included. A call that takes more than SCOPES_CALL_STACK fails. To be compiled with
+ * optimization, so that a call over a handle has no frame of its own, and linked so that memset is not looked up in a call. */
 #define _XOPEN_SOURCE 700
 #include <string.h>
 #include <ucontext.h>
@@ -68,21 +68,29 @@ static const struct { const char *name; void (*call)(void); } calls[] = {
     {"stack_push", stack_push},   {"stack_pop", stack_pop},
 };
 
+/* The function to be measured, and the painted bytes that it leaves, counted before anything else runs on that stack. */
+static void (*measured)(void);
+static size_t left;
+
+static void run(void)
+{
+    measured();
+    for (left = 0; stack[left] == PAINT; left++) {
+    }
+}
+
 /* The bytes of stack that a function takes with all that it calls. */
 static size_t taken_by(void (*call)(void))
 {
-    size_t free_bytes = 0;
     memset(stack, PAINT, sizeof stack);
     CHECK(getcontext(&away) == 0);
     away.uc_stack.ss_sp = stack;
     away.uc_stack.ss_size = sizeof stack;
     away.uc_link = &home;
-    makecontext(&away, call, 0);
+    measured = call;
+    makecontext(&away, run, 0);
     CHECK(swapcontext(&home, &away) == 0);
-    while (free_bytes < sizeof stack && stack[free_bytes] == PAINT) {
-        free_bytes++;
-    }
-    return sizeof stack - free_bytes;
+    return sizeof stack - left;
 }
 
 int main(void)
