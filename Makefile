@@ -1,6 +1,6 @@
 # The two commands of README.md, and what else there is to run.
 
-.PHONY: run rights test prove lib compare hosts soak bench instructions format
+.PHONY: run rights test prove lib install compare hosts soak bench instructions format clean help
 
 # Proves and builds the program, runs it on the specification's example, or on a list (make run LIST=file), and shows each line with its answer.
 run:
@@ -10,23 +10,28 @@ run:
 rights:
 	@scripts/rights $${TABLE:+"$$TABLE"}
 
-# Everything that the gate runs: each crate proved from nothing, each must-fail edit tried, the programs
-# compared with the second implementation, the archive tried from C and Rust. Its last line is 'N passed, 0 failed'.
+# Runs all tests, as the gate does. Each crate is proved from nothing, each must-fail edit tried, the programs are compared
+# with the second implementation, the archive is tried from C and Rust. The last line is 'N passed, 0 failed'.
 test:
 	@scripts/test
 
+# Proves each crate, and builds the programs.
 prove:
 	@scripts/in-memory rt check
 
-# The core for C and Rust: target/include/scopes.h and target/lib/libscopes.a.
+# Proves and builds the core for C and Rust: target/include/scopes.h and target/lib/libscopes.a.
 lib:
 	@scripts/lib
+
+# Installs what make lib left, with a file for pkg-config: make install PREFIX=/usr/local. DESTDIR is put in front of it.
+install:
+	@scripts/install $${PREFIX:+"$$PREFIX"}
 
 # The programs against the second implementation alone, after `make prove`.
 compare:
 	@scripts/compare
 
-# The archive alone: the bench in C, the Rust wrapper's tests, plain Rust beside the exported functions, these against the second implementation.
+# Tries the archive alone from C, C++ and Rust, and compares its functions with plain Rust and the second implementation.
 hosts:
 	@scripts/hosts
 
@@ -42,5 +47,14 @@ bench:
 instructions:
 	@scripts/instructions
 
+# Formats the code of all crates.
 format:
 	@rt fmt
+
+# Removes everything that was built.
+clean:
+	@rm -rf target
+
+# Lists these targets.
+help:
+	@scripts/help

@@ -1,25 +1,15 @@
-//! The core: a state with the memory that is lent to its calls.
+//! The calls on a core, with the types of what they name.
 
-use std::cell::Cell;
-use std::fmt;
-use std::marker::PhantomData;
+use core::fmt;
+use core::mem::MaybeUninit;
 
 use crate::names::{slot_word, Area, Handle, Kind, Thread};
+use crate::record::{self, Core, Memory};
 use crate::refusal::{check, value, Refusal};
-use crate::sys::{self, Memory, State};
 
 /// How many words the start map of stores of these lengths has.
 pub const fn map_words(permanent: usize, scratch: usize) -> usize {
     (permanent + scratch).div_ceil(64)
-}
-
-/// A state and its three buffers, borrowed for as long as it lives. It cannot be copied; calls that
-/// only look take `&self`. It may move to another thread, but threads do not share it without a lock.
-pub struct Core<'m> {
-    state: State,
-    memory: Memory<'m>,
-    /// Keeps it from being `Sync`: one call at a time, also where both only read.
-    not_sync: PhantomData<Cell<()>>,
 }
 
 impl<'m> Core<'m> {
@@ -40,13 +30,36 @@ impl<'m> Core<'m> {
             scratch,
             map,
         };
-        let (status, state) = sys::set_up(&memory, heap, immortal);
-        check(status)?;
-        Ok(Core {
-            state,
-            memory,
-            not_sync: PhantomData,
-        })
+        let (status, core) = record::set_up(memory, heap, immortal);
+        check(status).map(|()| core)
+    }
+
+    /// The same in a place of the host's own, where the core stays: its 7.5 KB do not cross the stack.
+    ///
+    /// ```
+    /// # use core::mem::MaybeUninit;
+    /// # use scopes::{map_words, Core, Kind, Thread};
+    /// # let (mut permanent, mut scratch, mut map) = ([0; 8], [0; 8], [0; map_words(8, 8)]);
+    /// let mut place = MaybeUninit::uninit();
+    /// let core = Core::set_up_in(&mut place, &mut permanent, &mut scratch, &mut map, 4, 4)?;
+    /// core.start(Thread::new(0), Kind::RealTime)?;
+    /// # Ok::<(), scopes::Refusal>(())
+    /// ```
+    pub fn set_up_in<'p>(
+        place: &'p mut MaybeUninit<Core<'m>>,
+        permanent: &'m mut [u64],
+        scratch: &'m mut [u64],
+        map: &'m mut [u64],
+        heap: u64,
+        immortal: u64,
+    ) -> Result<&'p mut Core<'m>, Refusal> {
+        let memory = Memory {
+            permanent,
+            scratch,
+            map,
+        };
+        let (status, core) = record::set_up_in(place, memory, heap, immortal);
+        check(status).map(|()| core)
     }
 
     /// Puts a rights table in force, until the next load: 36 digits, 0 or 1, ordered by kind, class
@@ -69,46 +82,35 @@ impl<'m> Core<'m> {
     /// # Ok::<(), Refusal>(())
     /// ```
     pub fn load_rights(&mut self, digits: &[u8]) -> Result<(), Refusal> {
-        value(sys::load_rights(&mut self.state, digits)).map(|_| ())
+        value(record::load_rights(self, digits)).map(|_| ())
     }
 
     /// Starts a thread. Refusals 2, 3.
     pub fn start(&mut self, thread: Thread, kind: Kind) -> Result<(), Refusal> {
-        let answer = sys::start(&mut self.state, &self.memory, thread.number(), kind as u64);
+        let answer = record::start(self, thread.number(), kind as u64);
         value(answer).map(|_| ())
     }
 
     /// Ends a thread. Refusals 2, 11.
     pub fn end(&mut self, thread: Thread) -> Result<(), Refusal> {
-        value(sys::end(&mut self.state, &self.memory, thread.number())).map(|_| ())
+        value(record::end(self, thread.number())).map(|_| ())
     }
 
     /// Makes a scope of a size in words, from the next unused scratch words. Refusals 2, 6, 7, 8.
     pub fn make(&mut self, thread: Thread, scope: Area, size: u64) -> Result<(), Refusal> {
-        let answer = sys::make(
-            &mut self.state,
-            &self.memory,
-            thread.number(),
-            scope.number(),
-            size,
-        );
+        let answer = record::make(self, thread.number(), scope.number(), size);
         value(answer).map(|_| ())
     }
 
     /// Enters an area; its generation. Refusals 2, 6, 5, 9, 10, 17.
     pub fn enter(&mut self, thread: Thread, area: Area) -> Result<u64, Refusal> {
-        let answer = sys::enter(
-            &mut self.state,
-            &self.memory,
-            thread.number(),
-            area.number(),
-        );
+        let answer = record::enter(self, thread.number(), area.number());
         value(answer)
     }
 
     /// Leaves the current area; the count of entries left of a scope, else 0. Refusals 2, 11.
     pub fn exit(&mut self, thread: Thread) -> Result<u64, Refusal> {
-        value(sys::exit(&mut self.state, &self.memory, thread.number()))
+        value(record::exit(self, thread.number()))
     }
 
     /// Allocates an object in the current area, slots null and data words 0. Refusals 2, 5, 12.
@@ -118,13 +120,7 @@ impl<'m> Core<'m> {
         slots: u64,
         data_words: u64,
     ) -> Result<Handle, Refusal> {
-        let answer = sys::allocate(
-            &mut self.state,
-            &mut self.memory,
-            thread.number(),
-            slots,
-            data_words,
-        );
+        let answer = record::allocate(self, thread.number(), slots, data_words);
         let word = value(answer)?;
         Ok(Handle::from_word(word).expect("an object's generation is at least 1"))
     }
@@ -137,9 +133,8 @@ impl<'m> Core<'m> {
         slot: u64,
         target: Option<Handle>,
     ) -> Result<(), Refusal> {
-        let answer = sys::store(
-            &self.state,
-            &mut self.memory,
+        let answer = record::store(
+            self,
             thread.number(),
             object.word(),
             slot,
@@ -155,13 +150,7 @@ impl<'m> Core<'m> {
         object: Handle,
         slot: u64,
     ) -> Result<Option<Handle>, Refusal> {
-        let answer = sys::load(
-            &self.state,
-            &self.memory,
-            thread.number(),
-            object.word(),
-            slot,
-        );
+        let answer = record::load(self, thread.number(), object.word(), slot);
         value(answer).map(Handle::from_word)
     }
 
@@ -173,61 +162,47 @@ impl<'m> Core<'m> {
         index: u64,
         word: u64,
     ) -> Result<(), Refusal> {
-        let answer = sys::write(
-            &self.state,
-            &mut self.memory,
-            thread.number(),
-            object.word(),
-            index,
-            word,
-        );
+        let answer = record::write(self, thread.number(), object.word(), index, word);
         value(answer).map(|_| ())
     }
 
     /// Reads a data word. Refusals 2, 13, 5, 14.
     pub fn read(&self, thread: Thread, object: Handle, index: u64) -> Result<u64, Refusal> {
-        let answer = sys::read(
-            &self.state,
-            &self.memory,
-            thread.number(),
-            object.word(),
-            index,
-        );
+        let answer = record::read(self, thread.number(), object.word(), index);
         value(answer)
     }
 
     /// An object's data words where they lie. No call that changes anything can be made while they
     /// are held. Refusals 2, 13, 5.
     pub fn view(&self, thread: Thread, object: Handle) -> Result<&[u64], Refusal> {
-        let place = sys::view_place(&self.state, &self.memory, thread.number(), object.word());
+        let place = record::view_place(self, thread.number(), object.word());
         check(place.status)?;
-        let store = if place.store == 0 {
-            &self.memory.permanent
-        } else {
-            &self.memory.scratch
+        let store = match place.store {
+            0 => self.permanent(),
+            _ => self.scratch(),
         };
         Ok(&store[place.from as usize..][..place.len as usize])
     }
 
     /// Whether [`Core::view`] would be refused.
     pub fn view_status(&self, thread: Thread, object: Handle) -> Result<(), Refusal> {
-        let answer = sys::view_status(&self.state, &self.memory, thread.number(), object.word());
+        let answer = record::view_status(self, thread.number(), object.word());
         value(answer).map(|_| ())
     }
 
     /// The words of the permanent store, to look at.
     pub fn permanent(&self) -> &[u64] {
-        self.memory.permanent
+        record::permanent(self)
     }
 
     /// The words of the scratch store, to look at.
     pub fn scratch(&self) -> &[u64] {
-        self.memory.scratch
+        record::scratch(self)
     }
 
     /// The words of the start map, to look at.
     pub fn map(&self) -> &[u64] {
-        self.memory.map
+        record::map(self)
     }
 }
 
@@ -235,9 +210,9 @@ impl<'m> Core<'m> {
 impl fmt::Debug for Core<'_> {
     fn fmt(&self, out: &mut fmt::Formatter<'_>) -> fmt::Result {
         out.debug_struct("Core")
-            .field("permanent", &self.memory.permanent.len())
-            .field("scratch", &self.memory.scratch.len())
-            .field("map", &self.memory.map.len())
+            .field("permanent", &self.permanent().len())
+            .field("scratch", &self.scratch().len())
+            .field("map", &self.map().len())
             .finish_non_exhaustive()
     }
 }

@@ -2,8 +2,9 @@
 //!
 //! The functions below this crate are proved: `include/scopes.h` says what of them, and what their
 //! caller owes. This crate keeps what the caller owes by its types. A [`Core`] is made by
-//! [`Core::set_up`] alone and is never copied, so its state is one that set-up and calls left; it
-//! borrows the three buffers for as long as it lives, so nothing else writes them between calls.
+//! [`Core::set_up`] or [`Core::set_up_in`] alone and is never copied, so its state is one that set-up
+//! and calls left; it borrows the three buffers for as long as it lives, so nothing else writes them
+//! between calls. It needs neither the standard library nor an allocator. [`sys`] is the raw layer.
 //!
 //! ```
 //! use scopes::{map_words, Area, Core, Kind, Thread};
@@ -27,19 +28,28 @@
 //! # What does not compile
 //!
 //! Each pair differs in one line, and the second of it is an error. A core may move to another
-//! thread, but it has no copies, and threads do not share it (one call at a time):
+//! thread, and threads may share it, but it has no copies:
 //!
 //! ```
-//! fn need<T: Send>() {}
+//! fn need<T: Send + Sync>() {}
 //! need::<scopes::Core>();
 //! ```
 //! ```compile_fail,E0277
 //! fn need<T: Clone>() {}
 //! need::<scopes::Core>();
 //! ```
-//! ```compile_fail,E0277
-//! fn need<T: Sync>() {}
-//! need::<scopes::Core>();
+//!
+//! Threads that share it only look:
+//!
+//! ```
+//! fn shared(core: &scopes::Core, thread: scopes::Thread, object: scopes::Handle) {
+//!     core.read(thread, object, 0).unwrap();
+//! }
+//! ```
+//! ```compile_fail,E0596
+//! fn shared(core: &scopes::Core, thread: scopes::Thread, object: scopes::Handle) {
+//!     core.write(thread, object, 0, 1).unwrap();
+//! }
 //! ```
 //!
 //! Nobody makes one by hand:
@@ -87,18 +97,20 @@
 //! }
 //! ```
 
+#![no_std]
 #![deny(unsafe_code)]
 #![warn(missing_docs)]
 
 mod calls;
-mod exports;
 mod names;
+#[allow(unsafe_code)]
+mod record;
 mod refusal;
 mod stack;
-#[allow(unsafe_code)]
-mod sys;
+pub mod sys;
 
-pub use calls::{map_words, Core};
+pub use calls::map_words;
 pub use names::{Area, Handle, Kind, Thread};
+pub use record::Core;
 pub use refusal::Refusal;
 pub use stack::ScopeStack;

@@ -1,6 +1,6 @@
 //! What calls name: threads, their kinds, areas, and handles of objects.
 
-use std::num::NonZeroU64;
+use core::num::NonZeroU64;
 
 /// A thread by its number. The core has threads 0 to 15; any other is refused by
 /// [`Thread`](crate::Refusal::Thread).

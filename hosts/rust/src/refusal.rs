@@ -1,13 +1,48 @@
 //! Why a call was refused, by the numbers of the specification.
 
-use std::error::Error;
-use std::fmt;
+use core::error::Error;
+use core::fmt;
 
-use crate::exports::Answer;
+use crate::sys::Answer;
 
-/// A refused call: it changed nothing. `refusal as u64` is its number.
-#[derive(Clone, Copy, Debug, PartialEq, Eq, Hash)]
-pub enum Refusal {
+/// Declares the refusals with their numbers, and the way from one to the other.
+macro_rules! refusals {
+    ($($(#[$doc:meta])* $name:ident = $number:literal,)*) => {
+        /// A refused call: it changed nothing. [`Refusal::number`] is its number. There may be more
+        /// of them in a later version.
+        #[derive(Clone, Copy, Debug, PartialEq, Eq, Hash)]
+        #[non_exhaustive]
+        pub enum Refusal {
+            $($(#[$doc])* $name,)*
+            /// A status that this crate has no name for: the archive is of a later version.
+            #[non_exhaustive]
+            Unknown {
+                /// The status.
+                status: u64,
+            },
+        }
+
+        impl Refusal {
+            /// The refusal with a number, if this crate has a name for it.
+            pub const fn from_number(number: u64) -> Option<Refusal> {
+                match number {
+                    $($number => Some(Refusal::$name),)*
+                    _ => None,
+                }
+            }
+
+            /// Its number.
+            pub const fn number(self) -> u64 {
+                match self {
+                    $(Refusal::$name => $number,)*
+                    Refusal::Unknown { status } => status,
+                }
+            }
+        }
+    };
+}
+
+refusals! {
     /// The buffers' lengths do not fit (set-up) or are not those of set-up.
     Lengths = 1,
     /// Thread above 15, or not started.
@@ -48,43 +83,14 @@ pub enum Refusal {
     Running = 24,
 }
 
-const ALL: [Refusal; 19] = [
-    Refusal::Lengths,
-    Refusal::Thread,
-    Refusal::Started,
-    Refusal::Kind,
-    Refusal::Right,
-    Refusal::Area,
-    Refusal::Made,
-    Refusal::Size,
-    Refusal::StackFull,
-    Refusal::Parent,
-    Refusal::Entries,
-    Refusal::Room,
-    Refusal::Object,
-    Refusal::Index,
-    Refusal::Target,
-    Refusal::Assignment,
-    Refusal::GenerationsOut,
-    Refusal::Table,
-    Refusal::Running,
-];
-
-impl Refusal {
-    /// The refusal with a number, which is from 1 to 17, 23 or 24.
-    pub fn from_number(number: u64) -> Option<Refusal> {
-        ALL.into_iter().find(|refusal| refusal.number() == number)
-    }
-
-    /// Its number.
-    pub fn number(self) -> u64 {
-        self as u64
-    }
-}
-
 impl fmt::Display for Refusal {
     fn fmt(&self, out: &mut fmt::Formatter<'_>) -> fmt::Result {
-        write!(out, "refused by {}, {:?}", self.number(), self)
+        match self {
+            Refusal::Unknown { status } => {
+                write!(out, "refused by {status}, which has no name here")
+            }
+            named => write!(out, "refused by {}, {named:?}", named.number()),
+        }
     }
 }
 
@@ -95,10 +101,25 @@ pub(crate) fn check(status: u64) -> Result<(), Refusal> {
     if status == 0 {
         return Ok(());
     }
-    Err(Refusal::from_number(status).expect("a status is 0 or that of a refusal"))
+    Err(Refusal::from_number(status).unwrap_or(Refusal::Unknown { status }))
 }
 
 /// The value of an answer, or its refusal.
 pub(crate) fn value(answer: Answer) -> Result<u64, Refusal> {
     check(answer.status).map(|()| answer.value)
+}
+
+#[cfg(test)]
+mod tests {
+    use super::*;
+
+    /// A status of a later archive is told as it is.
+    #[test]
+    fn unknown_status() {
+        for status in [18, 19, 25, u64::MAX] {
+            let refused = value(Answer { status, value: 0 }).unwrap_err();
+            assert_eq!(refused, Refusal::Unknown { status });
+            assert_eq!(refused.number(), status);
+        }
+    }
 }

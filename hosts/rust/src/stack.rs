@@ -1,29 +1,29 @@
 //! One thread's scope stack as a record that the host's scheduler holds.
 
-use std::fmt;
+use core::fmt;
 
-use crate::exports;
 use crate::names::Area;
+use crate::record;
 use crate::refusal::{value, Refusal};
 use crate::sys;
 
 /// A stack of at most 32 areas, apart from every state. It begins empty; push and pop change it.
-pub struct ScopeStack(exports::ScopeStack);
+pub struct ScopeStack(sys::ScopeStack);
 
 impl ScopeStack {
     /// An empty stack.
     pub fn empty() -> ScopeStack {
-        ScopeStack(sys::stack_empty())
+        ScopeStack(record::stack_empty())
     }
 
     /// Puts an area on top. Refusals 6, 9.
     pub fn push(&mut self, area: Area) -> Result<(), Refusal> {
-        value(sys::stack_push(&mut self.0, area.number())).map(|_| ())
+        value(record::stack_push(&mut self.0, area.number())).map(|_| ())
     }
 
     /// Takes the top off. Refusal 11.
     pub fn pop(&mut self) -> Result<Area, Refusal> {
-        value(sys::stack_pop(&mut self.0)).map(Area::new)
+        value(record::stack_pop(&mut self.0)).map(Area::new)
     }
 
     /// The areas on it, the top last.

@@ -2,7 +2,9 @@
 
 mod common;
 
-use common::{area, handle, thread, Buffers, PERMANENT, SCRATCH};
+use std::mem::MaybeUninit;
+
+use common::{area, handle, thread, Buffers, HEAP, IMMORTAL, PERMANENT, SCRATCH};
 use scopes::{map_words, Area, Core, Kind, ScopeStack};
 
 #[test]
@@ -102,7 +104,7 @@ fn views_last_beside_other_looks() {
     assert_eq!(view, [3]);
 }
 
-/// The buffers are the host's again when the core is gone.
+/// The buffers are the host's again after the core's last use.
 #[test]
 fn buffers_come_back() {
     let (mut permanent, mut scratch, mut map) = ([0; 8], [0; 8], [0; 1]);
@@ -110,9 +112,47 @@ fn buffers_come_back() {
     core.start(thread(0), Kind::Ordinary).unwrap();
     let object = core.allocate(thread(0), 0, 1).unwrap();
     core.write(thread(0), object, 0, 77).unwrap();
-    drop(core);
     assert_eq!(permanent[..2], [1 << 14, 77]);
     assert_eq!(map, [1]);
+}
+
+/// In a place of the host's own, of any contents.
+#[test]
+fn set_up_in_place() {
+    let mut buffers = Buffers::new();
+    let Buffers {
+        permanent,
+        scratch,
+        map,
+    } = &mut buffers;
+    let mut place = MaybeUninit::uninit();
+    let core = Core::set_up_in(&mut place, permanent, scratch, map, HEAP, IMMORTAL).unwrap();
+    assert_eq!((core as *const Core).align_offset(64), 0);
+    core.start(thread(0), Kind::RealTime).unwrap();
+    core.make(thread(0), area(2), 8).unwrap();
+    assert_eq!(core.enter(thread(0), area(2)), Ok(1));
+    let object = core.allocate(thread(0), 0, 2).unwrap();
+    assert_eq!(core.view(thread(0), object), Ok(&[0, 0][..]));
+    assert_eq!(core.exit(thread(0)), Ok(0));
+}
+
+#[test]
+fn threads_share_a_core_to_look() {
+    let mut buffers = Buffers::new();
+    let mut core = buffers.begin();
+    let object = core.allocate(thread(0), 1, 1).unwrap();
+    core.write(thread(0), object, 0, 3).unwrap();
+    let core = &core;
+    let look = || {
+        let read = core.read(thread(0), object, 0);
+        let view = core.view(thread(1), object);
+        (read, view, core.load(thread(0), object, 0))
+    };
+    let looks = std::thread::scope(|scope| {
+        let threads = [0; 4].map(|_| scope.spawn(look));
+        threads.map(|thread| thread.join().unwrap())
+    });
+    assert_eq!(looks, [(Ok(3), Ok(&[3][..]), Ok(None)); 4]);
 }
 
 #[test]

@@ -4,6 +4,8 @@
 
 mod common;
 
+use std::mem::MaybeUninit;
+
 use common::{area, handle, thread, Buffers};
 use scopes::{Area, Core, Kind, Refusal, ScopeStack};
 
@@ -27,6 +29,13 @@ fn refused_by_1_set_up() {
     assert_eq!(set_up(32, 32, 0, 20, 12), Some(1));
     assert_eq!(set_up(32, 32, 2, 20, 12), Some(1));
     assert_eq!(set_up(32, 33, 1, 20, 12), Some(1));
+}
+
+#[test]
+fn refused_by_1_set_up_in_place() {
+    let mut place = MaybeUninit::uninit();
+    let core = Core::set_up_in(&mut place, &mut [], &mut [], &mut [], 0, 1);
+    assert_eq!(core.err(), Some(Refusal::Lengths));
 }
 
 #[test]

@@ -6,6 +6,7 @@ use reference::texts::Text;
 
 use crate::exports::*;
 use crate::supplied::Supplied;
+use crate::tables::Tables;
 
 /// A call on a state: one of the ops, one of the two calls of the shown part, or a load, which is
 /// lent no buffer.
@@ -48,9 +49,32 @@ impl Reply {
     }
 }
 
+/// Calls an exported function with a state's tables, the buffers and numbers.
+macro_rules! call {
+    ($function:ident, $state:ident, $supplied:ident, $($number:expr),*) => {{
+        let [permanent, scratch, map] = $supplied.buffers();
+        // SAFETY: the tables have their sizes and, but for a set-up, hold a state of set-up and calls,
+        // in which the generation of a scope that is not open may be any up to the last; the buffers
+        // are slices with their own lengths, apart from each other.
+        unsafe {
+            $function(
+                $state.words.as_mut_ptr(),
+                $state.bytes.as_mut_ptr(),
+                permanent.as_mut_ptr(),
+                permanent.len(),
+                scratch.as_mut_ptr(),
+                scratch.len(),
+                map.as_mut_ptr(),
+                map.len(),
+                $($number),*
+            )
+        }
+    }};
+}
+
+/// A set-up by value.
 pub fn set_up(supplied: &mut Supplied, heap: u64, immortal: u64) -> NewState {
-    let (permanent, scratch) = (supplied.permanent.words_mut(), supplied.scratch.words_mut());
-    let map = supplied.map.words_mut();
+    let [permanent, scratch, map] = supplied.buffers();
     // SAFETY: three slices with their own lengths, borrowed for writing, so that a write is seen.
     unsafe {
         scopes_set_up(
@@ -66,28 +90,9 @@ pub fn set_up(supplied: &mut Supplied, heap: u64, immortal: u64) -> NewState {
     }
 }
 
-/// Calls an exported function with a state, the buffers and numbers.
-macro_rules! call {
-    ($function:ident, $state:ident, $supplied:ident, $($number:expr),*) => {{
-        let (permanent, scratch) = ($supplied.permanent.words_mut(), $supplied.scratch.words_mut());
-        let map = $supplied.map.words_mut();
-        // SAFETY: the tables have their sizes and hold a state of set-up and calls, but for the
-        // generation of a scope that is not open, which may be any up to the last; the buffers are
-        // slices with their own lengths, apart from each other.
-        unsafe {
-            $function(
-                $state.words.as_mut_ptr(),
-                $state.bytes.as_mut_ptr(),
-                permanent.as_mut_ptr(),
-                permanent.len(),
-                scratch.as_mut_ptr(),
-                scratch.len(),
-                map.as_mut_ptr(),
-                map.len(),
-                $($number),*
-            )
-        }
-    }};
+/// A set-up in place; its status.
+pub fn set_up_in(tables: &mut Tables, supplied: &mut Supplied, heap: u64, immortal: u64) -> u64 {
+    call!(scopes_set_up_in_place, tables, supplied, heap, immortal)
 }
 
 pub fn call(state: &mut NewState, supplied: &mut Supplied, request: Request) -> Reply {

@@ -3,12 +3,13 @@
 
 pub mod calls;
 pub mod chooser;
-/// The wrapper's declarations. The tables are open here, since a test compares them and makes states
-/// that no host may.
-#[path = "../../../hosts/rust/src/exports.rs"]
-pub mod exports;
 pub mod list;
 pub mod pair;
 pub mod records;
 pub mod supplied;
+pub mod tables;
 pub mod tally;
+
+/// The wrapper's raw layer. Its tables are open, since a test compares them and makes states that no
+/// host may.
+pub use scopes::sys as exports;

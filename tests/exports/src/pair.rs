@@ -9,6 +9,7 @@ use crate::calls::{self, Reply, Request};
 use crate::chooser::Seen;
 use crate::exports::{Answer, NewState, View};
 use crate::supplied::Supplied;
+use crate::tables::Tables;
 
 /// Where a scope's generation stands in the tables: the fourth of the eight words of its area.
 const GENERATION: usize = 3;
@@ -28,16 +29,13 @@ impl Pair {
     /// Set-up of both on the same words. A refused one leaves both with empty buffers. Yields its
     /// status beside them.
     pub fn set_up(heap: u64, immortal: u64, memory: Memory) -> Result<(u64, Pair), String> {
-        let mut supplied = Supplied::new(&memory);
-        let given = calls::set_up(&mut supplied, heap, immortal);
         let (answer, state) = state::set_up(heap, immortal, &memory);
         let request = format!("set-up {heap}, {immortal} on {:?}", memory.lengths());
+        let given =
+            set_up(heap, immortal, &memory).map_err(|words| format!("{request}: {words}"))?;
         let (status, expected) = (given.status, answer.status);
         if status != expected {
             return Err(format!("{request}: {status}, expected {expected}"));
-        }
-        if let Some(words) = supplied.difference(&memory) {
-            return Err(format!("{request}: {words}"));
         }
         let memory = if answer.is_accepted() {
             memory
@@ -139,6 +137,21 @@ impl Pair {
         self.given.words[scope as usize * 8 + GENERATION] = generation;
         self.state.areas[scope as usize].generation = generation;
     }
+}
+
+/// A set-up in place of the exported functions, which gives what the one by value does, and writes
+/// nothing but its tables.
+fn set_up(heap: u64, immortal: u64, memory: &Memory) -> Result<NewState, String> {
+    let (mut supplied, mut tables) = (Supplied::new(memory), Tables::painted());
+    let status = calls::set_up_in(&mut tables, &mut supplied, heap, immortal);
+    if !tables.intact() {
+        return Err("bytes around the tables were written".to_string());
+    }
+    let given = tables.state(status);
+    if given != calls::set_up(&mut supplied, heap, immortal) {
+        return Err("the set-up by value gives another state".to_string());
+    }
+    supplied.difference(memory).map_or(Ok(given), Err)
 }
 
 #[derive(Clone, Copy, Debug)]

@@ -50,6 +50,16 @@ impl Supplied {
         }
     }
 
+    /// The permanent store, the scratch store and the start map, as a call takes them.
+    pub fn buffers(&mut self) -> [&mut [u64]; 3] {
+        let Supplied {
+            permanent,
+            scratch,
+            map,
+        } = self;
+        [permanent, scratch, map].map(Guarded::words_mut)
+    }
+
     /// What differs from the second implementation's memory, if anything does.
     pub fn difference(&self, memory: &Memory) -> Option<String> {
         let pairs = [

@@ -1,0 +1,139 @@
+/* Every call over a handle once, with what it answers; the set-ups, views and stack record beside them; buffers and texts of
+ * length 0 by a null pointer. Both a C and a C++ program. */
+#include <string.h>
+
+#include "check.h"
+
+enum { HEAP = 32, IMMORTAL = 32, PERMANENT = HEAP + IMMORTAL, SCRATCH = 64, MAP = SCOPES_MAP_WORDS(PERMANENT, SCRATCH) };
+enum { THREAD = 0, SCOPE = 2 };
+
+/* The digits of the built-in rights table. */
+static const uint8_t digits[] = "111100110000" "111111111111" "000011111111";
+
+static uint64_t permanent[PERMANENT], scratch[SCRATCH], map[MAP];
+static scopes_core core;
+
+static int is_answer(scopes_answer answer, uint64_t value)
+{
+    return answer.status == SCOPES_OK && answer.value == value;
+}
+
+/* A refused view is empty, flat or over the handle. */
+static void check_refused_view(uint64_t object)
+{
+    scopes_span span = scopes_core_view(&core, THREAD, object);
+    CHECK(span.status == SCOPES_OBJECT && span.words == NULL && span.len == 0);
+    span = scopes_view_span(scopes_core_view_place(&core, THREAD, object), permanent, scratch);
+    CHECK(span.status == SCOPES_OBJECT && span.words == NULL && span.len == 0);
+}
+
+/* An accepted one lies in its store. */
+static void check_view(uint64_t object, const uint64_t *words, size_t len)
+{
+    scopes_span span = scopes_core_view(&core, THREAD, object);
+    CHECK(span.status == SCOPES_OK && span.words == words && span.len == len);
+    span = scopes_view_span(scopes_core_view_place(&core, THREAD, object), permanent, scratch);
+    CHECK(span.status == SCOPES_OK && span.words == words && span.len == len);
+    CHECK(is_answer(scopes_core_view_status(&core, THREAD, object), 0));
+}
+
+static void every_call(void)
+{
+    uint64_t outer, inner;
+    CHECK_STATUS(scopes_core_set_up(&core, permanent, PERMANENT, scratch, SCRATCH, map, MAP, HEAP, IMMORTAL), SCOPES_OK);
+    scopes_answer loaded = scopes_core_load_rights(&core, digits, SCOPES_RIGHTS_DIGITS);
+    CHECK(is_answer(loaded, 0));
+    CHECK(is_answer(scopes_core_start(&core, THREAD, SCOPES_REAL_TIME), 0));
+    CHECK(is_answer(scopes_core_make(&core, THREAD, SCOPE, 16), 0));
+    outer = scopes_core_allocate(&core, THREAD, 1, 2).value;
+    CHECK(outer == (uint64_t)1 << 20);
+    CHECK(is_answer(scopes_core_enter(&core, THREAD, SCOPE), 1));
+    inner = scopes_core_allocate(&core, THREAD, 2, 3).value;
+    CHECK(is_answer(scopes_core_store(&core, THREAD, inner, 1, outer), 0));
+    CHECK(is_answer(scopes_core_load(&core, THREAD, inner, 1), outer));
+    CHECK(is_answer(scopes_core_write(&core, THREAD, inner, 2, 43), 0));
+    CHECK(is_answer(scopes_core_read(&core, THREAD, inner, 2), 43));
+    check_view(outer, permanent + 2, 2);
+    check_view(inner, scratch + 3, 3);
+    CHECK(is_answer(scopes_core_exit(&core, THREAD), 0));
+    check_refused_view(inner);
+    CHECK(is_answer(scopes_core_end(&core, THREAD), 0));
+}
+
+/* Both set-ups give the same state, also where they are refused. */
+static void check_same_set_up(uint64_t heap, uint64_t expected)
+{
+    scopes_new_state by_value = scopes_set_up(permanent, PERMANENT, scratch, SCRATCH, map, MAP, heap, IMMORTAL);
+    CHECK_STATUS(by_value.status, expected);
+    CHECK_STATUS(scopes_core_set_up(&core, permanent, PERMANENT, scratch, SCRATCH, map, MAP, heap, IMMORTAL), expected);
+    CHECK(memcmp(core.words, by_value.words, sizeof core.words) == 0);
+    CHECK(memcmp(core.bytes, by_value.bytes, sizeof core.bytes) == 0);
+}
+
+/* Each buffer, and a text, of length 0 as a null pointer. */
+static void null_buffers(void)
+{
+    CHECK_STATUS(scopes_core_set_up(&core, NULL, 0, NULL, 0, NULL, 0, 0, 0), SCOPES_OK);
+    CHECK_ANSWER(scopes_core_load_rights(&core, NULL, 0), SCOPES_TABLE);
+    CHECK(is_answer(scopes_core_load_rights(&core, digits, SCOPES_RIGHTS_DIGITS), 0));
+    CHECK(is_answer(scopes_core_start(&core, THREAD, SCOPES_REAL_TIME), 0));
+    CHECK_ANSWER(scopes_core_make(&core, THREAD, SCOPE, 1), SCOPES_SIZE);
+    CHECK(is_answer(scopes_core_enter(&core, THREAD, SCOPES_IMMORTAL), 1));
+    CHECK_ANSWER(scopes_core_allocate(&core, THREAD, 0, 0), SCOPES_ROOM);
+    CHECK_ANSWER(scopes_core_store(&core, THREAD, 1, 0, SCOPES_NULL), SCOPES_OBJECT);
+    CHECK_ANSWER(scopes_core_load(&core, THREAD, 1, 0), SCOPES_OBJECT);
+    CHECK_ANSWER(scopes_core_write(&core, THREAD, 1, 0, 7), SCOPES_OBJECT);
+    CHECK_ANSWER(scopes_core_read(&core, THREAD, 1, 0), SCOPES_OBJECT);
+    check_refused_view((uint64_t)1 << 20);
+    CHECK(is_answer(scopes_core_exit(&core, THREAD), 0));
+    CHECK(is_answer(scopes_core_end(&core, THREAD), 0));
+    CHECK_STATUS(scopes_core_set_up(&core, NULL, 0, NULL, 0, NULL, 0, 1, 0), SCOPES_LENGTHS);
+}
+
+/* Scopes alone, or heap and immortal memory alone: the other store has length 0. */
+static void null_store(void)
+{
+    uint64_t object;
+    CHECK_STATUS(scopes_core_set_up(&core, NULL, 0, scratch, SCRATCH, map, 1, 0, 0), SCOPES_OK);
+    CHECK(is_answer(scopes_core_start(&core, THREAD, SCOPES_REAL_TIME), 0));
+    CHECK(is_answer(scopes_core_make(&core, THREAD, SCOPE, SCRATCH), 0));
+    CHECK_ANSWER(scopes_core_allocate(&core, THREAD, 0, 0), SCOPES_ROOM);
+    CHECK(is_answer(scopes_core_enter(&core, THREAD, SCOPE), 1));
+    object = scopes_core_allocate(&core, THREAD, 0, SCRATCH - 1).value;
+    check_view(object, scratch + 1, SCRATCH - 1);
+    CHECK_STATUS(scopes_core_set_up(&core, permanent, PERMANENT, NULL, 0, map, 1, HEAP, IMMORTAL), SCOPES_OK);
+    CHECK(is_answer(scopes_core_start(&core, THREAD, SCOPES_ORDINARY), 0));
+    object = scopes_core_allocate(&core, THREAD, 1, HEAP - 2).value;
+    CHECK(is_answer(scopes_core_store(&core, THREAD, object, 0, object), 0));
+    check_view(object, permanent + 2, HEAP - 2);
+}
+
+static void stack_record(void)
+{
+    scopes_stack stack = scopes_stack_empty();
+    CHECK(stack.len == 0);
+    CHECK(is_answer(scopes_stack_push(&stack, SCOPE), 0));
+    CHECK_ANSWER(scopes_stack_push(&stack, SCOPES_AREAS), SCOPES_AREA);
+    CHECK(is_answer(scopes_stack_pop(&stack), SCOPE));
+    CHECK_ANSWER(scopes_stack_pop(&stack), SCOPES_ENTRIES);
+}
+
+static void names(void)
+{
+    CHECK(strcmp(scopes_status_name(SCOPES_ASSIGNMENT), "SCOPES_ASSIGNMENT") == 0);
+    CHECK(strcmp(scopes_status_name(25), "unknown status") == 0);
+    CHECK(strcmp(scopes_status_name((uint64_t)1 << 32), "unknown status") == 0);
+    CHECK(scopes_version() == SCOPES_VERSION);
+}
+
+int main(void)
+{
+    every_call();
+    check_same_set_up(HEAP, SCOPES_OK);
+    check_same_set_up(HEAP + 1, SCOPES_LENGTHS);
+    null_buffers();
+    null_store();
+    stack_record();
+    names();
+    return failures != 0;
+}
