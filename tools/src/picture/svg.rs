@@ -1,0 +1,129 @@
+//! An SVG being written: shapes and texts one after another, at whole pixels.
+
+/// A text's attributes: the size of its letters, its colour, and where it stands at its place.
+#[derive(Clone, Copy, Debug)]
+pub struct Font {
+    pub size: usize,
+    pub colour: &'static str,
+    pub anchor: Anchor,
+    pub bold: bool,
+}
+
+#[derive(Clone, Copy, Debug)]
+pub enum Anchor {
+    Start,
+    Middle,
+    End,
+}
+
+impl Anchor {
+    fn name(self) -> &'static str {
+        match self {
+            Anchor::Start => "start",
+            Anchor::Middle => "middle",
+            Anchor::End => "end",
+        }
+    }
+}
+
+impl Font {
+    /// The width of a text, rather more than most fonts take.
+    pub fn width(&self, text: &str) -> usize {
+        (text.chars().count() * self.size * 62).div_ceil(100)
+    }
+}
+
+/// A rectangle: its left upper corner, its width and height.
+#[derive(Clone, Copy, Debug)]
+pub struct Rectangle {
+    pub x: usize,
+    pub y: usize,
+    pub width: usize,
+    pub height: usize,
+}
+
+impl Rectangle {
+    pub fn bottom(self) -> usize {
+        self.y + self.height
+    }
+}
+
+#[derive(Debug, Default)]
+pub struct Svg {
+    body: String,
+}
+
+impl Svg {
+    /// A rectangle with a fill and, if it is named, the colour of its edge.
+    pub fn rectangle(&mut self, at: Rectangle, fill: &str, edge: Option<&str>) {
+        let edge = edge.map_or(String::new(), |edge| format!(" stroke=\"{edge}\""));
+        self.add(&format!(
+            "<rect x=\"{}\" y=\"{}\" width=\"{}\" height=\"{}\" fill=\"{fill}\"{edge}/>",
+            at.x, at.y, at.width, at.height
+        ));
+    }
+
+    /// A rectangle that is not seen and shows a text where a pointer rests on it.
+    pub fn hint(&mut self, at: Rectangle, text: &str) {
+        self.add(&format!(
+            "<rect x=\"{}\" y=\"{}\" width=\"{}\" height=\"{}\" fill-opacity=\"0\"><title>{}</title></rect>",
+            at.x,
+            at.y,
+            at.width,
+            at.height,
+            escaped(text)
+        ));
+    }
+
+    pub fn line(&mut self, from: (usize, usize), to: (usize, usize), colour: &str) {
+        self.add(&format!(
+            "<line x1=\"{}\" y1=\"{}\" x2=\"{}\" y2=\"{}\" stroke=\"{colour}\"/>",
+            from.0, from.1, to.0, to.1
+        ));
+    }
+
+    pub fn dot(&mut self, at: (usize, usize), radius: usize, colour: &str) {
+        self.add(&format!(
+            "<circle cx=\"{}\" cy=\"{}\" r=\"{radius}\" fill=\"{colour}\"/>",
+            at.0, at.1
+        ));
+    }
+
+    /// A text on its base line.
+    pub fn text(&mut self, at: (usize, usize), font: Font, text: &str) {
+        let bold = if font.bold {
+            " font-weight=\"bold\""
+        } else {
+            ""
+        };
+        self.add(&format!(
+            "<text x=\"{}\" y=\"{}\" font-size=\"{}\" fill=\"{}\" text-anchor=\"{}\"{bold}>{}</text>",
+            at.0,
+            at.1,
+            font.size,
+            font.colour,
+            font.anchor.name(),
+            escaped(text)
+        ));
+    }
+
+    fn add(&mut self, element: &str) {
+        self.body += element;
+        self.body += "\n";
+    }
+
+    /// The whole file, on a light ground.
+    pub fn finish(self, width: usize, height: usize) -> String {
+        format!(
+            "<svg xmlns=\"http://www.w3.org/2000/svg\" width=\"{width}\" height=\"{height}\" \
+             viewBox=\"0 0 {width} {height}\" font-family=\"system-ui, sans-serif\">\n\
+             <rect width=\"{width}\" height=\"{height}\" fill=\"#ffffff\"/>\n{}</svg>\n",
+            self.body
+        )
+    }
+}
+
+fn escaped(text: &str) -> String {
+    let text = text.replace('&', "&amp;").replace('<', "&lt;");
+    text.replace('>', "&gt;")
+}
