@@ -30,7 +30,7 @@ pub fn parse(name: &str, text: &str) -> Result<u64, String> {
         None => number::parse(name, text, u64::MAX)
             .map_err(|_| "area.generation:offset, null or a number of 64 bits".into()),
     };
-    word.map_err(|reason| format!("the {name} `{text}` is no handle: {reason}"))
+    word.map_err(|reason| format!("{name} `{text}` is no handle: {reason}"))
 }
 
 /// The texts of area, generation and offset.

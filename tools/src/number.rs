@@ -8,10 +8,10 @@ pub fn parse(name: &str, text: &str, most: u64) -> Result<u64, String> {
         None => (text, 10),
     };
     if digits.is_empty() || !digits.chars().all(|digit| digit.is_digit(radix)) {
-        return Err(format!("the {name} `{text}` is no number"));
+        return Err(format!("{name} `{text}` is no number"));
     }
     let number = u64::from_str_radix(digits, radix).ok();
     number
         .filter(|&number| number <= most)
-        .ok_or_else(|| format!("the {name} `{text}` is above {most}"))
+        .ok_or_else(|| format!("{name} `{text}` is above {most}"))
 }

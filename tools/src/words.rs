@@ -10,9 +10,12 @@ use crate::handle;
 use crate::ops::{self, Sort, Value};
 use crate::refusals;
 
+/// What stands for the call of a line that is no frame.
+pub const NO_FRAME: &str = "(no frame)";
+
 /// A line of a list and its answer, as `t0 enter 2 → generation 1`.
 pub fn of_exchange(exchange: &Exchange) -> String {
-    let call = exchange.call.map_or("(no frame)".into(), of_call);
+    let call = exchange.call.map_or(NO_FRAME.into(), of_call);
     format!("{call} → {}", of_answer(exchange.call, exchange.answer))
 }
 

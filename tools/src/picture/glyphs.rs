@@ -1,9 +1,9 @@
-//! The small parts that the drawing and its legend share.
+//! The small parts that the lanes and the legend share.
 
 use super::colours;
 use super::svg::{Anchor, Font, Rectangle, Svg};
 
-pub const LABEL: Font = font(10, colours::TEXT, Anchor::Start);
+const LABEL: Font = font(10, colours::TEXT, Anchor::Start);
 const STATUS: Font = Font {
     bold: true,
     ..font(9, colours::ON_REFUSED, Anchor::Middle)
@@ -11,7 +11,10 @@ const STATUS: Font = Font {
 
 /// The side of a mark; two digits fit into it.
 pub const MARK: usize = 14;
-/// A label's base line in its bar, and the room beside it.
+/// The radius of the dot at a parent.
+pub const PARENT_END: usize = 3;
+/// A label's height, its base line in its bar, and the room on its left.
+pub const LABEL_HEIGHT: usize = 13;
 const BASE: usize = 10;
 const BESIDE: usize = 4;
 
@@ -24,7 +27,7 @@ pub const fn font(size: usize, colour: &'static str, anchor: Anchor) -> Font {
     }
 }
 
-/// A bar from one place to another.
+/// A bar from one side to the other.
 pub fn bar((from, to): (usize, usize), y: usize, height: usize) -> Rectangle {
     Rectangle {
         x: from,
@@ -39,16 +42,14 @@ pub fn label_width(words: &str) -> usize {
     BESIDE + LABEL.width(words)
 }
 
-/// A label in a bar, if there is room for it. Yields whether there is.
-pub fn label(svg: &mut Svg, bar: Rectangle, words: &str) -> bool {
-    let fits = label_width(words) <= bar.width;
-    if fits {
+/// A label in a bar, if there is room for it.
+pub fn label(svg: &mut Svg, bar: Rectangle, words: &str) {
+    if label_width(words) <= bar.width {
         svg.text((bar.x + BESIDE, bar.y + BASE), LABEL, words);
     }
-    fits
 }
 
-/// An area's bar, filled or pale.
+/// An area's bar.
 pub fn area(svg: &mut Svg, bar: Rectangle, fill: &str) {
     svg.rectangle(bar, fill, Some(colours::EDGE));
 }
@@ -59,15 +60,19 @@ pub fn accepted(svg: &mut Svg, at: (usize, usize)) {
 }
 
 /// A refused call with its number.
-pub fn refused(svg: &mut Svg, (x, y): (usize, usize), status: &str) {
-    let (left, right) = (x - MARK / 2, x + MARK / 2);
-    let ground = bar((left, right), y - MARK / 2, MARK);
+pub fn refused(svg: &mut Svg, (x, y): (usize, usize), status: u64) {
+    let sides = (x - MARK / 2, x + MARK / 2);
+    let ground = bar(sides, y - MARK / 2, MARK);
     svg.rectangle(ground, colours::REFUSED, None);
-    svg.text((x, y + 3), STATUS, status);
+    svg.text((x, y + 3), STATUS, &status.to_string());
 }
 
-/// A line from a scope to its parent, which has the dot.
-pub fn parent(svg: &mut Svg, scope: (usize, usize), parent: (usize, usize)) {
+/// A line from a scope to its parent.
+pub fn parent_line(svg: &mut Svg, scope: (usize, usize), parent: (usize, usize)) {
     svg.line(scope, parent, colours::PARENT);
-    svg.dot(parent, 3, colours::PARENT);
+}
+
+/// The parent's end of that line.
+pub fn parent_end(svg: &mut Svg, parent: (usize, usize)) {
+    svg.dot(parent, PARENT_END, colours::PARENT);
 }

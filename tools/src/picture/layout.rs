@@ -7,11 +7,12 @@ use super::timeline::{Span, ThreadLane, Timeline};
 /// The names of the lanes stand left of the columns.
 const LEFT: usize = 92;
 const RIGHT: usize = 16;
-/// Narrow lists leave room for the legend.
-const LEAST_WIDTH: usize = 680;
-/// The title and the numbers of the calls stand above the lanes.
+/// The legend's longest words fit into it.
+const LEAST_WIDTH: usize = 480;
+/// The title stands above all, the numbers of the calls above the lanes and below them.
 pub const TITLE: usize = 20;
-const TOP: usize = 44;
+const BELOW_TITLE: usize = 30;
+pub const NUMBERS: usize = 18;
 const BETWEEN: usize = 8;
 
 /// The rows of a thread's lane: marks of its calls, one for each entry, its life.
@@ -22,45 +23,76 @@ pub const LIFE: usize = 14;
 pub const HEADING: usize = 14;
 pub const WORDS: usize = 36;
 
-/// The widths of a column, each with the most calls that it serves and the step between numbers. Two
-/// digits of a mark fit into the narrowest.
-const WIDTHS: [(usize, usize, usize); 3] = [(40, 28, 1), (120, 18, 5), (usize::MAX, 14, 10)];
+/// A width of the columns: the most calls that it serves, the step between numbers, and whether there
+/// is room to write out each call.
+#[derive(Clone, Copy, Debug)]
+struct Width {
+    most: usize,
+    pixels: usize,
+    step: usize,
+    written: bool,
+}
+
+/// A mark fits into the narrowest column.
+const WIDTHS: [Width; 3] = [
+    Width {
+        most: 60,
+        pixels: 28,
+        step: 1,
+        written: true,
+    },
+    Width {
+        most: 150,
+        pixels: 20,
+        step: 5,
+        written: false,
+    },
+    Width {
+        most: usize::MAX,
+        pixels: 16,
+        step: 10,
+        written: false,
+    },
+];
 
 /// The columns.
 #[derive(Clone, Copy, Debug)]
 pub struct Scale {
     columns: usize,
-    pub width: usize,
-    step: usize,
+    width: Width,
 }
 
 impl Scale {
     pub fn new(columns: usize) -> Scale {
-        let fitting = WIDTHS.iter().find(|&&(most, _, _)| columns <= most);
-        let &(_, width, step) = fitting.expect("the last width serves any number");
-        Scale {
-            columns,
-            width,
-            step,
-        }
+        let fitting = WIDTHS.iter().find(|width| columns <= width.most);
+        let width = *fitting.expect("the last width serves any number");
+        Scale { columns, width }
     }
 
-    pub fn left(&self, column: usize) -> usize {
-        LEFT + column * self.width
-    }
-
-    /// A call happens in the middle of its column.
-    pub fn middle(&self, column: usize) -> usize {
-        self.left(column) + self.width / 2
-    }
-
-    /// Where the columns end.
-    pub fn right(&self) -> usize {
-        self.left(self.columns)
+    /// Whether each call is written out over its column.
+    pub fn written(&self) -> bool {
+        self.width.written
     }
 
     pub fn start(&self) -> usize {
         LEFT
+    }
+
+    /// The left and right side of a column.
+    pub fn sides(&self, column: usize) -> (usize, usize) {
+        let left = LEFT + column * self.width.pixels;
+        (left, left + self.width.pixels)
+    }
+
+    /// A call happens in the middle of its column.
+    pub fn middle(&self, column: usize) -> usize {
+        let (left, right) = self.sides(column);
+        (left + right) / 2
+    }
+
+    /// Where the columns end.
+    pub fn right(&self) -> usize {
+        self.sides(self.columns).0
     }
 
     /// From the call that began something to the call that ended it, or to the end of the list.
@@ -69,10 +101,10 @@ impl Scale {
         (self.middle(span.from), to)
     }
 
-    /// The columns that get a number.
+    /// The columns that get a number: the first one, and each that the step divides.
     pub fn numbered(&self) -> impl Iterator<Item = usize> {
-        let (columns, step) = (self.columns, self.step);
-        (0..columns).filter(move |column| (column + 1) % step == 0 || *column == 0)
+        let (columns, step) = (self.columns, self.width.step);
+        (0..columns).filter(move |column| *column == 0 || (column + 1) % step == 0)
     }
 
     pub fn picture_width(&self) -> usize {
@@ -104,20 +136,17 @@ pub struct Lanes {
 }
 
 impl Lanes {
-    pub fn all(&self) -> impl Iterator<Item = &Strip> {
-        let threads = self.no_frames.iter().chain(self.threads.values());
-        threads.chain(self.scopes.values())
-    }
-
-    pub fn new(timeline: &Timeline) -> Lanes {
-        let mut next = TOP;
+    /// The lanes under calls that are written out in this height.
+    pub fn new(timeline: &Timeline, written: usize) -> Lanes {
+        let top = BELOW_TITLE + written + NUMBERS;
+        let mut bottom = top;
         let mut strip = |height| {
-            let top = next;
-            next += height + BETWEEN;
+            let top = bottom;
+            bottom += height + BETWEEN;
             Strip { top, height }
         };
-        let unread = !timeline.no_frames.is_empty();
-        let no_frames = unread.then(|| strip(MARKS));
+        let any_no_frame = !timeline.no_frames.is_empty();
+        let no_frames = any_no_frame.then(|| strip(MARKS));
         let threads = timeline.threads.iter();
         let threads = threads.map(|(&thread, lane)| (thread, strip(thread_height(lane))));
         let threads = threads.collect();
@@ -128,9 +157,14 @@ impl Lanes {
             no_frames,
             threads,
             scopes,
-            top: TOP,
-            bottom: next,
+            top,
+            bottom,
         }
+    }
+
+    pub fn all(&self) -> impl Iterator<Item = &Strip> {
+        let threads = self.no_frames.iter().chain(self.threads.values());
+        threads.chain(self.scopes.values())
     }
 }
 

@@ -6,7 +6,9 @@ mod drawing;
 mod glyphs;
 mod layout;
 mod legend;
+mod scopes;
 mod svg;
+mod threads;
 pub mod timeline;
 
 use crate::answers::Exchange;

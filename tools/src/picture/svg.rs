@@ -1,5 +1,7 @@
 //! An SVG being written: shapes and texts one after another, at whole pixels.
 
+use super::colours;
+
 /// A text's attributes: the size of its letters, its colour, and where it stands at its place.
 #[derive(Clone, Copy, Debug)]
 pub struct Font {
@@ -40,12 +42,6 @@ pub struct Rectangle {
     pub y: usize,
     pub width: usize,
     pub height: usize,
-}
-
-impl Rectangle {
-    pub fn bottom(self) -> usize {
-        self.y + self.height
-    }
 }
 
 #[derive(Debug, Default)]
@@ -91,15 +87,24 @@ impl Svg {
 
     /// A text on its base line.
     pub fn text(&mut self, at: (usize, usize), font: Font, text: &str) {
+        let place = format!("x=\"{}\" y=\"{}\"", at.0, at.1);
+        self.text_at(&place, font, text);
+    }
+
+    /// A text that reads upwards from its place.
+    pub fn upright_text(&mut self, at: (usize, usize), font: Font, text: &str) {
+        let place = format!("transform=\"translate({} {}) rotate(-90)\"", at.0, at.1);
+        self.text_at(&place, font, text);
+    }
+
+    fn text_at(&mut self, place: &str, font: Font, text: &str) {
         let bold = if font.bold {
             " font-weight=\"bold\""
         } else {
             ""
         };
         self.add(&format!(
-            "<text x=\"{}\" y=\"{}\" font-size=\"{}\" fill=\"{}\" text-anchor=\"{}\"{bold}>{}</text>",
-            at.0,
-            at.1,
+            "<text {place} font-size=\"{}\" fill=\"{}\" text-anchor=\"{}\"{bold}>{}</text>",
             font.size,
             font.colour,
             font.anchor.name(),
@@ -117,7 +122,8 @@ impl Svg {
         format!(
             "<svg xmlns=\"http://www.w3.org/2000/svg\" width=\"{width}\" height=\"{height}\" \
              viewBox=\"0 0 {width} {height}\" font-family=\"system-ui, sans-serif\">\n\
-             <rect width=\"{width}\" height=\"{height}\" fill=\"#ffffff\"/>\n{}</svg>\n",
+             <rect width=\"{width}\" height=\"{height}\" fill=\"{}\"/>\n{}</svg>\n",
+            colours::GROUND,
             self.body
         )
     }
