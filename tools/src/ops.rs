@@ -98,7 +98,7 @@ const INDEX: Field = field(Place::Q, "index", "index ", Sort::Number);
 const WORD: Field = field(Place::R, "word", ":= ", Sort::Number);
 
 /// The ops in the order of their numbers.
-pub static TABLE: [Row; 10] = [
+pub static TABLE: &[Row] = &[
     row(0x01, "start", &[KIND], None),
     row(0x02, "end", &[], None),
     row(0x03, "make", &[AREA, SIZE], None),

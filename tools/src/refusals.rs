@@ -2,7 +2,8 @@
 
 use reference::answer::Refusal;
 
-const WORDS: [(Refusal, &str); 20] = [
+/// The refusals in the order of their numbers.
+const WORDS: &[(Refusal, &str)] = &[
     (
         Refusal::Lengths,
         "the buffers' lengths are not those of set-up",

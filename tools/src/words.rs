@@ -65,6 +65,12 @@ fn of_number(sort: Sort, number: u64) -> String {
     }
 }
 
+/// A count with its noun, as `1 word`, `8 words`.
+pub fn counted(count: u64, noun: &str) -> String {
+    let plural = if count == 1 { "" } else { "s" };
+    format!("{count} {noun}{plural}")
+}
+
 /// A number, with its name behind it if it has one.
 fn with_name(number: u64, name: Option<&str>) -> String {
     match name {

@@ -130,7 +130,7 @@ fn refused_calls_are_marked_on_their_caller_s_lane() {
 fn what_the_picture_says() {
     let picture = list_of(CALLS).picture();
     for words in [
-        ">18 calls, 1 refused<",
+        ">18 lines, 1 refused<",
         ">thread 0<",
         ">thread 1<",
         ">scope 2<",

@@ -24,7 +24,7 @@ fn every_op_has_its_row() {
 #[test]
 fn every_row_has_the_fields_of_its_frame() {
     let last_digits = [(Place::P, 19), (Place::Q, 23), (Place::R, 39)];
-    for row in &TABLE {
+    for row in TABLE {
         for (place, digit) in last_digits {
             let used = frame::parse(&line(row.number, Some(digit))).is_some();
             let fields = row.fields.iter().filter(|field| field.place == place);
@@ -35,7 +35,7 @@ fn every_row_has_the_fields_of_its_frame() {
 
 #[test]
 fn fields_stand_in_the_order_of_the_frame() {
-    for row in &TABLE {
+    for row in TABLE {
         let places: Vec<usize> = row
             .fields
             .iter()
@@ -47,7 +47,7 @@ fn fields_stand_in_the_order_of_the_frame() {
 
 #[test]
 fn each_name_is_one_op() {
-    for row in &TABLE {
+    for row in TABLE {
         assert_eq!(
             ops::named(row.name).map(|found| found.number),
             Some(row.number)
@@ -58,7 +58,7 @@ fn each_name_is_one_op() {
 /// The greatest number of a field is written in its digits and no more.
 #[test]
 fn greatest_numbers_are_the_frame_s() {
-    for row in &TABLE {
+    for row in TABLE {
         let mut numbers = [0; 3];
         for field in row.fields {
             numbers[field.place as usize] = field.place.most();

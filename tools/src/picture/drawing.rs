@@ -54,7 +54,8 @@ impl Drawing {
 
     fn headline(&mut self, timeline: &Timeline) {
         let refused = timeline.marks().filter(|mark| mark.status != 0).count();
-        let words = format!("{} calls, {refused} refused", timeline.columns);
+        let lines = words::counted(timeline.columns as u64, "line");
+        let words = format!("{lines}, {refused} refused");
         self.svg.text((self.scale.start(), TITLE), HEADLINE, &words);
     }
 

@@ -6,6 +6,7 @@ use super::glyphs::{self, bar, font, label_width, LABEL_HEIGHT, PARENT_END};
 use super::layout::{Strip, HEADING, WORDS};
 use super::svg::{Anchor, Font, Rectangle};
 use super::timeline::{Opening, ScopeLane, Timeline};
+use crate::words;
 
 const SIZE: Font = font(10, colours::FAINT_TEXT, Anchor::End);
 
@@ -60,7 +61,7 @@ impl Drawing {
         let strip = self.lanes.scopes[&scope];
         let middle = strip.bottom() - WORDS / 2;
         self.beside(middle, NAME, &format!("scope {scope}"));
-        self.beside(middle + 13, SIZE, &format!("{} words", lane.size));
+        self.beside(middle + 13, SIZE, &words::counted(lane.size, "word"));
         for opening in &lane.openings {
             self.opening(scope, strip, lane.size, opening);
         }
@@ -68,8 +69,8 @@ impl Drawing {
 
     fn opening(&mut self, scope: u64, strip: Strip, size: u64, opening: &Opening) {
         let ends = self.scale.ends(opening.span);
-        let words = words_strip(strip);
-        let room = bar(ends, words.top, words.height);
+        let Strip { top, height } = words_strip(strip);
+        let room = bar(ends, top, height);
         glyphs::area(&mut self.svg, room, &self.palette.behind(scope));
         for (span, used) in opening.steps().filter(|&(_, used)| used > 0) {
             let part = used_part(room, self.scale.ends(span), used, size);

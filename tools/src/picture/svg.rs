@@ -44,6 +44,19 @@ pub struct Rectangle {
     pub height: usize,
 }
 
+impl Rectangle {
+    fn attributes(self) -> String {
+        let Rectangle {
+            x,
+            y,
+            width,
+            height,
+        } = self;
+        format!("x=\"{x}\" y=\"{y}\" width=\"{width}\" height=\"{height}\"")
+    }
+}
+
+/// The elements written so far, one a line.
 #[derive(Debug, Default)]
 pub struct Svg {
     body: String,
@@ -53,21 +66,15 @@ impl Svg {
     /// A rectangle with a fill and, if it is named, the colour of its edge.
     pub fn rectangle(&mut self, at: Rectangle, fill: &str, edge: Option<&str>) {
         let edge = edge.map_or(String::new(), |edge| format!(" stroke=\"{edge}\""));
-        self.add(&format!(
-            "<rect x=\"{}\" y=\"{}\" width=\"{}\" height=\"{}\" fill=\"{fill}\"{edge}/>",
-            at.x, at.y, at.width, at.height
-        ));
+        let place = at.attributes();
+        self.add(&format!("<rect {place} fill=\"{fill}\"{edge}/>"));
     }
 
     /// A rectangle that is not seen and shows a text where a pointer rests on it.
     pub fn hint(&mut self, at: Rectangle, text: &str) {
+        let (place, text) = (at.attributes(), escaped(text));
         self.add(&format!(
-            "<rect x=\"{}\" y=\"{}\" width=\"{}\" height=\"{}\" fill-opacity=\"0\"><title>{}</title></rect>",
-            at.x,
-            at.y,
-            at.width,
-            at.height,
-            escaped(text)
+            "<rect {place} fill-opacity=\"0\"><title>{text}</title></rect>"
         ));
     }
 
