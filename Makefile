@@ -2,9 +2,24 @@
 
 .PHONY: run rights test prove lib install compare hosts soak bench instructions format clean help
 
-# Proves and builds the program, runs it on the specification's example, or on a list (make run LIST=file), and shows each line with its answer.
+# Proves and builds the program, runs it on the specification's example, or on a list (make run LIST=file), and shows each line with its answer,
+# and both in words.
 run:
 	@scripts/run $${LIST:+"$$LIST"}
+
+.PHONY: explain assemble picture tools
+
+# The same in words alone: of the example, or of a list (make explain LIST=file).
+explain:
+	@scripts/explain $${LIST:+"$$LIST"}
+
+# The frames of calls written as text: of the example, or of a file (make assemble LIST=file).
+assemble:
+	@scripts/assemble $${LIST:+"$$LIST"}
+
+# An SVG of a list and its answers: make picture LIST=file OUT=file; target/picture.svg where no file is named.
+picture:
+	@scripts/picture "$${LIST:-}" "$${OUT:-}"
 
 # Prints the 36 digits of a rights table from its three lines: of the example, or of a file (make rights TABLE=file).
 rights:
@@ -30,6 +45,10 @@ install:
 # The programs against the second implementation alone, after `make prove`.
 compare:
 	@scripts/compare
+
+# Tries the tools that show lists of calls, on the examples, after `make prove`.
+tools:
+	@scripts/tools
 
 # Tries the archive alone from C, C++ and Rust, and compares its functions with plain Rust and the second implementation.
 hosts:

@@ -24,8 +24,9 @@ pub fn parse(line: &[u8]) -> Option<Call> {
     Some(Call { thread, op })
 }
 
-/// The fields that the table names for each op; any other must be 0.
-fn operation(op: u64, p: u64, q: u64, r: u64) -> Option<Op> {
+/// The op of a number with its fields, if there is one: those that the table names; any other must
+/// be 0.
+pub fn operation(op: u64, p: u64, q: u64, r: u64) -> Option<Op> {
     let (object, slot, index) = (p, q, q);
     match (op, p, q, r) {
         (0x01, kind, 0, 0) => Some(Op::Start { kind }),
@@ -50,7 +51,8 @@ fn operation(op: u64, p: u64, q: u64, r: u64) -> Option<Op> {
     }
 }
 
-fn number(digits: &[u8]) -> Option<u64> {
+/// The number of at most 16 digits.
+pub fn number(digits: &[u8]) -> Option<u64> {
     let mut number = 0;
     for &byte in digits {
         number = number * 16 + digit(byte)?;

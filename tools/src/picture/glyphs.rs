@@ -1,0 +1,78 @@
+//! The small parts that the lanes and the legend share.
+
+use super::colours;
+use super::svg::{Anchor, Font, Rectangle, Svg};
+
+const LABEL: Font = font(10, colours::TEXT, Anchor::Start);
+const STATUS: Font = Font {
+    bold: true,
+    ..font(9, colours::ON_REFUSED, Anchor::Middle)
+};
+
+/// The side of a mark; two digits fit into it.
+pub const MARK: usize = 14;
+/// The radius of the dot at a parent.
+pub const PARENT_END: usize = 3;
+/// A label's height, its base line in its bar, and the room on its left.
+pub const LABEL_HEIGHT: usize = 13;
+const BASE: usize = 10;
+const BESIDE: usize = 4;
+
+pub const fn font(size: usize, colour: &'static str, anchor: Anchor) -> Font {
+    Font {
+        size,
+        colour,
+        anchor,
+        bold: false,
+    }
+}
+
+/// A bar from one side to the other.
+pub fn bar((from, to): (usize, usize), y: usize, height: usize) -> Rectangle {
+    Rectangle {
+        x: from,
+        y,
+        width: to - from,
+        height,
+    }
+}
+
+/// The room that a label takes in a bar.
+pub fn label_width(words: &str) -> usize {
+    BESIDE + LABEL.width(words)
+}
+
+/// A label in a bar, if there is room for it.
+pub fn label(svg: &mut Svg, bar: Rectangle, words: &str) {
+    if label_width(words) <= bar.width {
+        svg.text((bar.x + BESIDE, bar.y + BASE), LABEL, words);
+    }
+}
+
+/// An area's bar.
+pub fn area(svg: &mut Svg, bar: Rectangle, fill: &str) {
+    svg.rectangle(bar, fill, Some(colours::EDGE));
+}
+
+/// An accepted call.
+pub fn accepted(svg: &mut Svg, at: (usize, usize)) {
+    svg.dot(at, 2, colours::ACCEPTED);
+}
+
+/// A refused call with its number.
+pub fn refused(svg: &mut Svg, (x, y): (usize, usize), status: u64) {
+    let sides = (x - MARK / 2, x + MARK / 2);
+    let ground = bar(sides, y - MARK / 2, MARK);
+    svg.rectangle(ground, colours::REFUSED, None);
+    svg.text((x, y + 3), STATUS, &status.to_string());
+}
+
+/// A line from a scope to its parent.
+pub fn parent_line(svg: &mut Svg, scope: (usize, usize), parent: (usize, usize)) {
+    svg.line(scope, parent, colours::PARENT);
+}
+
+/// The parent's end of that line.
+pub fn parent_end(svg: &mut Svg, parent: (usize, usize)) {
+    svg.dot(parent, PARENT_END, colours::PARENT);
+}

@@ -1,0 +1,255 @@
+//! The timeline of a list, and the picture of it.
+
+mod common;
+#[path = "common/xml.rs"]
+mod xml;
+
+use common::{example, generated, List, EXAMPLES};
+use reference::rights::Kind;
+use tools::picture::timeline::{follow, Span, Timeline};
+use tools::{answers, picture, text};
+
+fn list_of(calls: &str) -> List {
+    List::new(text::assemble(calls.as_bytes()).expect("calls"))
+}
+
+fn timeline_of(list: &List) -> Timeline {
+    follow(&list.exchanges()).expect("the answers agree")
+}
+
+/// Columns from 0, as the timeline has them, of calls counted from 1.
+fn span(from: usize, to: usize) -> Span {
+    let to = Some(to - 1);
+    Span { from: from - 1, to }
+}
+
+fn span_to_end(from: usize) -> Span {
+    let from = from - 1;
+    Span { from, to: None }
+}
+
+const CALLS: &str = "\
+    t0 start 2
+    t1 start 3
+    t0 make 2 8
+    t0 make 3 4
+    t0 enter 2
+    t0 allocate 0 2
+    t0 enter 1
+    t0 enter 3
+    t1 enter 3      # 9: refused, the parent is 2
+    t0 exit
+    t0 exit
+    t0 allocate 1 0
+    t1 enter 2
+    t0 exit
+    t0 end
+    t0 start 1
+    t1 exit
+    t1 enter 3";
+
+#[test]
+fn threads_and_their_stacks() {
+    let timeline = timeline_of(&list_of(CALLS));
+    let entries = |thread: u64| -> Vec<(u64, usize, Span)> {
+        let entries = timeline.threads[&thread].entries.iter();
+        entries
+            .map(|entry| (entry.area, entry.place, entry.span))
+            .collect()
+    };
+    let meter = [
+        (2, 0, span(5, 14)),
+        (1, 1, span(7, 11)),
+        (3, 2, span(8, 10)),
+    ];
+    assert_eq!(entries(0), meter);
+    assert_eq!(entries(1), [(2, 0, span(13, 17)), (3, 0, span_to_end(18))]);
+    let lives = |thread: u64| -> Vec<(Kind, Span)> {
+        let lives = timeline.threads[&thread].lives.iter();
+        lives.map(|life| (life.kind, life.span)).collect()
+    };
+    assert_eq!(
+        lives(0),
+        [
+            (Kind::RealTime, span(1, 15)),
+            (Kind::Ordinary, span_to_end(16))
+        ]
+    );
+    assert_eq!(lives(1), [(Kind::NoHeap, span_to_end(2))]);
+}
+
+/// An opening: its generation, its parent, its used words.
+type Opened = (u64, Option<u64>, Vec<(Span, u64)>);
+
+#[test]
+fn scopes_with_used_words_and_parents() {
+    let timeline = timeline_of(&list_of(CALLS));
+    let openings = |scope: u64| -> Vec<Opened> {
+        let openings = timeline.scopes[&scope].openings.iter();
+        openings
+            .map(|opening| {
+                (
+                    opening.generation,
+                    opening.parent,
+                    opening.steps().collect(),
+                )
+            })
+            .collect()
+    };
+    let used = vec![(span(5, 6), 0), (span(6, 12), 3), (span(12, 17), 5)];
+    assert_eq!(openings(2), [(1, None, used)]);
+    let first = (1, Some(2), vec![(span(8, 10), 0)]);
+    let second = (2, None, vec![(span_to_end(18), 0)]);
+    assert_eq!(openings(3), [first, second]);
+    let sizes: Vec<u64> = timeline.scopes.values().map(|lane| lane.size).collect();
+    assert_eq!(sizes, [8, 4]);
+}
+
+#[test]
+fn refused_calls_are_marked_on_their_caller_s_lane() {
+    let mut list = list_of("t0 start 2\nt0 exit\nt1 end\nt200 end").frames;
+    list.extend(b"not a frame\n");
+    let timeline = timeline_of(&List::new(list));
+    let marks = |thread: u64| -> Vec<(usize, u64)> {
+        let marks = timeline.threads[&thread].marks.iter();
+        marks.map(|mark| (mark.column, mark.status)).collect()
+    };
+    assert_eq!(marks(0), [(0, 0), (1, 11)]);
+    assert_eq!(marks(1), [(2, 2)]);
+    assert_eq!(marks(200), [(3, 2)]);
+    let no_frames: Vec<(usize, u64)> = timeline
+        .no_frames
+        .iter()
+        .map(|mark| (mark.column, mark.status))
+        .collect();
+    assert_eq!(no_frames, [(4, 18)]);
+}
+
+/// Every lane is named, every refusal explained, every call told where a pointer rests on it.
+#[test]
+fn what_the_picture_says() {
+    let picture = list_of(CALLS).picture();
+    for words in [
+        ">18 lines, 1 refused<",
+        ">thread 0<",
+        ">thread 1<",
+        ">scope 2<",
+        ">8 words<",
+        ">scope 3<",
+        ">4 words<",
+        ">immortal<",
+        ">no-heap<",
+        ">generation 1, no parent<",
+        ">parent 2<",
+        ">scope open with another parent<",
+        ">t1 enter 3<",
+        "<title>9: t1 enter 3 → refused 10: scope open with another parent</title>",
+        "<title>12: t0 allocate slots 1 data 0 → object 2.1:3</title>",
+    ] {
+        assert!(picture.contains(words), "{words} in {picture}");
+    }
+}
+
+#[test]
+fn pictures_of_any_length_are_well_formed() {
+    for count in [0, 1, 2, 30, 61, 151, 300] {
+        for list in generated(1..8, count) {
+            let picture = list.picture();
+            xml::check(&picture).unwrap_or_else(|reason| panic!("{reason}: {picture}"));
+            assert_eq!(picture.matches("<title>").count(), list.lines());
+            assert_eq!(picture, list.picture());
+        }
+    }
+}
+
+#[test]
+fn the_checker_of_pictures_refuses_others() {
+    let wrong = [
+        "",
+        "<a>",
+        "</a>",
+        "<a></b>",
+        "<a/><b/>",
+        "<a><b></a></b>",
+        "<a>&</a>",
+        "<a>1 > 0</a>",
+        "<a x=1/>",
+        "<a x=\"1/>",
+        "x<a/>",
+        "<a/>x",
+    ];
+    for text in wrong {
+        assert!(xml::check(text).is_err(), "{text}");
+    }
+    xml::check("<a x=\"1\" y=\"2\"><b/>&lt;</a>\n").expect("well-formed");
+}
+
+/// No text reaches the next one on its line: numbers of calls, marks of refused ones, labels.
+#[test]
+fn texts_of_a_line_stand_apart() {
+    for count in [60, 150, 400] {
+        for list in generated(20..24, count) {
+            let mut texts = texts(&list.picture());
+            texts.sort();
+            for pair in texts.windows(2) {
+                let [(y, _, end), (next_y, next_x, _)] = pair else {
+                    unreachable!("windows of two")
+                };
+                assert!(y != next_y || end <= next_x, "{pair:?}");
+            }
+        }
+    }
+}
+
+/// The base line, the left and the right end of each level text, by a width of 0.6 of its size a letter.
+fn texts(picture: &str) -> Vec<(usize, usize, usize)> {
+    let lines = picture.lines().filter(|line| line.starts_with("<text x="));
+    let place = |line: &str| {
+        let number = |name: &str| -> usize {
+            let (_, rest) = line
+                .split_once(&format!("{name}=\""))
+                .expect("an attribute");
+            rest.split('"')
+                .next()
+                .and_then(|number| number.parse().ok())
+                .expect("a number")
+        };
+        let letters = line
+            .split(['>', '<'])
+            .nth(2)
+            .expect("a text")
+            .chars()
+            .count();
+        let width = letters * number("font-size") * 6 / 10;
+        let left = match () {
+            () if line.contains("\"middle\"") => number(" x") - width / 2,
+            () if line.contains("\"end\"") => number(" x").saturating_sub(width),
+            () => number(" x"),
+        };
+        (number(" y"), left, left + width)
+    };
+    lines.map(place).collect()
+}
+
+#[test]
+fn a_picture_of_other_answers_is_refused() {
+    let mut list = list_of("t0 start 2\nt0 make 2 8\nt0 enter 2");
+    list.answers = b"000000000000000000\n000000000000000000\n000000000000000002\n".to_vec();
+    let exchanges = answers::pair(&list.frames, &list.answers).expect("answers");
+    let reason = picture::draw(&exchanges).expect_err("refused");
+    let expected =
+        "line 3: t0 enter 2 → generation 2, but the second implementation answers: generation 1";
+    assert_eq!(reason, expected);
+}
+
+#[test]
+fn examples_have_their_pictures() {
+    for name in EXAMPLES {
+        let (frames, answers) = (example(name, "frames"), example(name, "answers"));
+        let picture = List { frames, answers }.picture();
+        assert!(
+            picture.as_bytes() == example(name, "svg"),
+            "examples/{name}.svg is another picture"
+        );
+    }
+}
