@@ -10,72 +10,27 @@ mod machine;
 mod measure;
 mod plot;
 mod report;
+mod rows;
 mod runs;
 mod scenes;
 
-use machine::{Core, InLine, Machine, Plain, Scan, Walk};
+use machine::{Core, InLine, Machine, Scan, Walk};
 use measure::Loop;
+use rows::{Row, ROWS, SIDES};
 use runs::{Spread, Times};
-use scenes::{Nest, Room};
+use scenes::Nest;
 
-/// How deep the calls on objects are nested, and how far above their target is.
-const DEPTH: u64 = 8;
-const DISTANCE: u64 = 4;
-/// Those of the reference check: from the scope itself to the outermost of 32.
+/// Nesting distances of the reference check: from the scope itself to the outermost of 32.
 const DISTANCES: [u64; 7] = [0, 1, 2, 4, 8, 16, 31];
 /// Runs of the whole measurement, each in a process of its own.
 const RUNS: usize = 7;
 
-/// A row of the first table.
-struct Row {
-    name: &'static str,
-    limit: f64,
-}
-
-const ROWS: [Row; 11] = [
-    row("store", 1.0),
-    row("load", 1.0),
-    row("read", 1.0),
-    row("write", 1.0),
-    row("enter + exit, depth 1", 1.1),
-    row("enter + exit, depth 8", 1.1),
-    row("enter + exit, depth 31", 1.1),
-    row("allocate, 0 data words", 1.1),
-    row("allocate, 1 data word", 1.1),
-    row("allocate, 8 data words", 1.1),
-    row("allocate, 64 data words", 1.1),
-];
-
-const fn row(name: &'static str, limit: f64) -> Row {
-    Row { name, limit }
-}
-
-/// The loop of a row on one side.
-fn row_loop<M: Machine + 'static>(row: usize) -> Loop {
-    let (mut nest, mut room) = (Nest::<M>::new(DEPTH), Room::<M>::new());
-    match row {
-        0 => Box::new(move |calls| nest.store(calls, DISTANCE)),
-        1 => Box::new(move |calls| nest.load(calls, DISTANCE)),
-        2 => Box::new(move |calls| nest.read(calls)),
-        3 => Box::new(move |calls| nest.write(calls)),
-        4..=6 => {
-            let mut nest = Nest::<M>::new([0, 7, 30][row - 4]);
-            Box::new(move |calls| nest.enter_and_exit(calls))
-        }
-        _ => Box::new(move |calls| room.allocate(calls, [0, 1, 8, 64][row - 7])),
-    }
-}
-
 /// The times of this process: those of the rows, then those of stores at nesting distances on a stack of 32
 /// scopes, then those of the reference check alone.
 fn times() -> Times {
-    let rows = (0..ROWS.len()).flat_map(|row| {
-        [
-            row_loop::<Core>(row),
-            row_loop::<Plain>(row),
-            row_loop::<InLine>(row),
-        ]
-    });
+    let rows = ROWS
+        .iter()
+        .flat_map(|&row| SIDES.iter().map(move |side| (side.row_loop)(row)));
     let rows = measure::best(&mut rows.collect::<Vec<Loop>>());
     let checks = DISTANCES.iter().flat_map(|&distance| {
         [
@@ -95,7 +50,7 @@ fn times() -> Times {
     });
     let rules = measure::best(&mut rules.collect::<Vec<Loop>>());
     let lines = rows
-        .chunks(3)
+        .chunks(SIDES.len())
         .chain(checks.chunks(4))
         .chain(rules.chunks(3));
     lines.map(<[f64]>::to_vec).collect()
@@ -103,13 +58,14 @@ fn times() -> Times {
 
 fn figures(runs: &[Times]) -> Vec<report::Figure> {
     let sides = |line: &Vec<f64>| report::Sides {
-        core: line[0],
-        plain: line[1],
-        in_line: line[2],
+        exported: line[0],
+        tuned: line[1],
+        unchecked: line[2],
+        plain: line[3],
+        in_line: line[4],
     };
     let figure = |(place, row): (usize, &Row)| report::Figure {
         name: row.name,
-        limit: row.limit,
         runs: runs.iter().map(|times| sides(&times[place])).collect(),
     };
     ROWS.iter().enumerate().map(figure).collect()
@@ -159,13 +115,9 @@ fn rule_loop(distance: u64, rule: in_line::Rule) -> Loop {
 
 /// Makes the calls of a row on one side and nothing else.
 fn count(row: &str, side: &str, calls: &str) -> Option<()> {
-    let place = ROWS.iter().position(|r| r.name == row)?;
-    let mut run = match side {
-        "core" => row_loop::<Core>(place),
-        "plain" => row_loop::<Plain>(place),
-        "in_line" => row_loop::<InLine>(place),
-        _ => return None,
-    };
+    let row = ROWS.iter().find(|known| known.name == row)?;
+    let side = SIDES.iter().find(|known| known.name == side)?;
+    let mut run = (side.row_loop)(*row);
     run(calls.parse().ok()?);
     Some(())
 }
@@ -197,7 +149,7 @@ fn main() {
     if obey(&words).is_none() {
         eprintln!(
             "usage: bench PLOT.svg, bench agree, bench times, bench rows, \
-             or bench count ROW core|plain|in_line CALLS"
+             or bench count ROW exported|tuned|unchecked|plain|in_line CALLS"
         );
         std::process::exit(2);
     }

@@ -5,12 +5,13 @@ use crate::runs::Spread;
 /// A call, and the ratio that is to be reached: nanoseconds on each side, a line for each run.
 pub struct Figure {
     pub name: &'static str,
-    pub limit: f64,
     pub runs: Vec<Sides>,
 }
 
 pub struct Sides {
-    pub core: f64,
+    pub exported: f64,
+    pub tuned: f64,
+    pub unchecked: f64,
     pub plain: f64,
     pub in_line: f64,
 }
@@ -51,23 +52,25 @@ pub fn print(figures: &[Figure], checks: &[Check], rules: &[Rules]) {
 
 fn print_figures(figures: &[Figure]) {
     println!(
-        "| call | ratio | least | most | to reach | ratio to all in line | exported, ns \
-         | plain Rust, ns | all in line, ns |"
+        "| call | ratio to tuned | mark | ratio to tuned unchecked | mark | least, most to tuned | least, most to unchecked \
+         | exported, ns | tuned, ns | unchecked, ns | ratio to plain Rust | to all in line |"
     );
-    println!("|---|---|---|---|---|---|---|---|---|");
+    println!("|---|---|---|---|---|---|---|---|---|---|---|---|");
     for figure in figures {
-        let ratio = figure.spread(|run| run.core / run.plain);
+        let tuned = figure.spread(|run| run.exported / run.tuned);
+        let unchecked = figure.spread(|run| run.exported / run.unchecked);
         println!(
-            "| {} | {:.2} | {:.2} | {:.2} | {:.1} | {:.2} | {:.2} | {:.2} | {:.2} |",
+            "| {} | {:.2} | 1.0 | {:.2} | 1.05 | {:.2}, {:.2} | {:.2}, {:.2} | {:.2} | {:.2} | {:.2} | {:.2} | {:.2} |",
             figure.name,
-            ratio.middle,
-            ratio.least,
-            ratio.most,
-            figure.limit,
-            figure.spread(|run| run.core / run.in_line).middle,
-            figure.spread(|run| run.core).middle,
-            figure.spread(|run| run.plain).middle,
-            figure.spread(|run| run.in_line).middle
+            tuned.middle,
+            unchecked.middle,
+            tuned.least, tuned.most,
+            unchecked.least, unchecked.most,
+            figure.spread(|run| run.exported).middle,
+            figure.spread(|run| run.tuned).middle,
+            figure.spread(|run| run.unchecked).middle,
+            figure.spread(|run| run.exported / run.plain).middle,
+            figure.spread(|run| run.exported / run.in_line).middle,
         );
     }
 }
