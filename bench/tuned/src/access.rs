@@ -1,4 +1,4 @@
-//! A word by its place: checked, or unchecked where the state's invariant says that the place is there.
+//! A word or a record by its place: checked, or unchecked where the state's invariant says that the place is there.
 
 use std::ops::Range;
 
@@ -12,8 +12,8 @@ mod by_place {
     }
 
     #[inline(always)]
-    pub fn put<T>(words: &mut [T], place: usize, word: T) {
-        words[place] = word;
+    pub fn at<T>(words: &mut [T], place: usize) -> &mut T {
+        &mut words[place]
     }
 
     #[inline(always)]
@@ -34,8 +34,8 @@ mod by_place {
     }
 
     #[inline(always)]
-    pub fn put<T>(words: &mut [T], place: usize, word: T) {
-        unsafe { *words.get_unchecked_mut(place) = word }
+    pub fn at<T>(words: &mut [T], place: usize) -> &mut T {
+        unsafe { words.get_unchecked_mut(place) }
     }
 
     #[inline(always)]
@@ -44,4 +44,9 @@ mod by_place {
     }
 }
 
-pub use by_place::{get, part, put};
+pub use by_place::{at, get, part};
+
+#[inline(always)]
+pub fn put<T>(words: &mut [T], place: usize, word: T) {
+    *at(words, place) = word;
+}

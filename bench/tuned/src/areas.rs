@@ -1,7 +1,10 @@
 //! Ops 01, 03, 04 and 05: threads start, scopes are made, entered and left.
 
-use crate::rights::{Mask, Right};
-use crate::state::{accepted, refused, Answer, State, AREAS, FIRST_SCOPE, STACK_ENTRIES, THREADS};
+use crate::access::{at, get, put};
+use crate::rights::{Class, Mask, Right};
+use crate::state::{
+    accepted, refused, Answer, Entry, State, AREAS, FIRST_SCOPE, STACK_ENTRIES, THREADS,
+};
 
 const LAST_GENERATION: u64 = (1 << 44) - 1;
 
@@ -36,11 +39,11 @@ pub fn make(
     if let Err(status) = st.caller(p, s, m, t) {
         return refused(status);
     }
-    if area < FIRST_SCOPE as u64 || area >= AREAS {
+    if !(FIRST_SCOPE..AREAS).contains(&area) {
         return refused(6);
     }
     let record = &mut st.areas[area as usize];
-    if record.size > 0 {
+    if record.class != Class::NONE {
         return refused(7);
     }
     if size == 0 || size > st.scratch as u64 - u64::from(st.taken) {
@@ -49,6 +52,7 @@ pub fn make(
     record.start = st.taken;
     record.bit = st.permanent as u32 + st.taken;
     record.size = size as u32;
+    record.class = Class::SCOPE;
     st.taken += size as u32;
     accepted(0)
 }
@@ -74,42 +78,35 @@ fn try_enter(
     if area >= AREAS {
         return Err(6);
     }
-    let area = area as usize;
-    let is_scope = area >= FIRST_SCOPE;
-    if is_scope && st.areas[area].size == 0 {
+    let class = st.areas[area as usize].class;
+    if class == Class::NONE {
         return Err(6);
     }
-    if !rights.have(Right::Enter, area) {
+    if !rights.have(Right::Enter, class) {
         return Err(5);
     }
-    // The mask is without effect, and tells the compiler so.
-    let t = t as usize & 15;
-    let thread = &st.threads[t];
-    let place = thread.len as usize;
-    if place >= STACK_ENTRIES {
+    let thread = &st.threads[t as usize];
+    let len = thread.len as usize;
+    if len >= STACK_ENTRIES {
         return Err(9);
     }
-    let innermost = if place == 0 {
-        0
-    } else {
-        thread.inner[place - 1]
+    let mut entry = Entry {
+        area: area as u8,
+        inner: thread.entries[len].inner,
     };
-    if is_scope {
-        enter_scope(st, area, innermost)?;
+    if class.is_scope() {
+        enter_scope(st, area as usize, entry.inner)?;
+        entry.inner = entry.area;
     }
-    let thread = &mut st.threads[t];
-    thread.entries[place] = area as u8;
-    thread.inner[place] = if is_scope { area as u8 } else { innermost };
-    thread.len = place as u8 + 1;
-    Ok(st.areas[area].generation)
+    let thread = &mut st.threads[t as usize];
+    thread.entries[len + 1] = entry;
+    thread.len = len as u8 + 1;
+    Ok(st.areas[area as usize].generation())
 }
 
 /// Refusals 10 and 17; else one entry more, which opens a scope that has none.
 #[inline(always)]
 fn enter_scope(st: &mut State, area: usize, innermost: u8) -> Result<(), u64> {
-    let parent = innermost as usize & 63;
-    let depth = st.areas[parent].depth;
-    let display = st.displays[parent];
     let scope = &mut st.areas[area];
     if scope.count > 0 {
         if scope.parent != innermost {
@@ -118,16 +115,16 @@ fn enter_scope(st: &mut State, area: usize, innermost: u8) -> Result<(), u64> {
         scope.count += 1;
         return Ok(());
     }
-    if scope.generation >= LAST_GENERATION {
+    if scope.generation() >= LAST_GENERATION {
         return Err(17);
     }
-    scope.generation += 1;
-    scope.used = 0;
+    scope.base += 1 << 20;
     scope.count = 1;
     scope.parent = innermost;
-    scope.depth = depth + 1;
-    st.displays[area] = display;
-    st.displays[area][depth as usize & 31] = area as u8;
+    let depth = get(&st.areas, innermost as usize).depth;
+    st.areas[area].depth = depth + 1;
+    st.displays[area] = get(&st.displays, innermost as usize);
+    put(&mut st.displays[area], depth as usize, area as u8);
     Ok(())
 }
 
@@ -136,21 +133,19 @@ pub fn exit(st: &mut State, p: &[u64], s: &[u64], m: &[u64], t: u64) -> Answer {
     if let Err(status) = st.caller(p, s, m, t) {
         return refused(status);
     }
-    let thread = &mut st.threads[t as usize & 15];
+    let thread = &mut st.threads[t as usize];
     if thread.len == 0 {
         return refused(11);
     }
+    let area = thread.top().area as usize;
     thread.len -= 1;
-    let area = thread.entries[thread.len as usize & 31] as usize & 63;
-    if area < FIRST_SCOPE {
+    if area < FIRST_SCOPE as usize {
         return accepted(0);
     }
-    let scope = &mut st.areas[area];
+    let scope = at(&mut st.areas, area);
     scope.count -= 1;
     if scope.count == 0 {
-        scope.parent = 0;
         scope.used = 0;
-        scope.depth = 0;
     }
     accepted(u64::from(scope.count))
 }

@@ -1,7 +1,7 @@
 //! Ops 09 and 0a, and the view: data words are written, read, and shown where they lie.
 
 use crate::access::{get, put};
-use crate::state::{accepted, refused, select, Answer, Object, State, View, FIRST_SCOPE};
+use crate::state::{accepted, refused, Answer, Object, State, View};
 
 impl Object {
     /// The place of its first data word in its store.
@@ -31,7 +31,7 @@ pub fn write(
         return refused(14);
     }
     let at = object.data() + index as u32;
-    put(select(object.area, p, s), at as usize, word);
+    put(object.class.select(p, s), at as usize, word);
     accepted(0)
 }
 
@@ -53,7 +53,7 @@ pub fn read(
         return refused(14);
     }
     let at = object.data() + index as u32;
-    accepted(get(select(object.area, p, s), at as usize))
+    accepted(get(object.class.select(p, s), at as usize))
 }
 
 #[inline(never)]
@@ -67,7 +67,7 @@ pub fn view(st: &State, p: &[u64], s: &[u64], m: &[u64], t: u64, object: u64) ->
         },
         Ok((object, _)) => View {
             status: 0,
-            store: u64::from(object.area >= FIRST_SCOPE),
+            store: u64::from(object.class.is_scope()),
             from: u64::from(object.data()),
             len: u64::from(object.data_words),
         },

@@ -1,6 +1,7 @@
-//! The core as a Rust engineer who cares for speed would write it: records of 32 bytes, the place of an area's
-//! first map bit kept in its record, a thread's rights as a mask, one branch for the three lengths, every helper
-//! in line. The checks and their order are those of the exported functions.
+//! The core as a Rust engineer who cares for speed would write it: records of 32 bytes, a handle's generation, area and
+//! offset tested by one subtraction, a thread's rights as a mask against the bit of an area's class, an entry below each
+//! stack that stands for an empty one, the place of an area's first map bit kept in its record, few words cleared without
+//! a call, every helper in line. The checks and their order are those of the exported functions.
 //!
 //! It is compiled twice: as safe code, and with the feature `unchecked`, which drops the bounds checks
 //! that the state's invariant makes needless. Each is a crate of its own, so that the compiler sees its functions

@@ -1,11 +1,8 @@
 //! Op 06: an object is allocated.
 
-use crate::access::{get, part, put};
+use crate::access::{at, get, part, put};
 use crate::rights::Right;
-use crate::state::{accepted, refused, select, Answer, State};
-
-/// Up to so many words are cleared one by one.
-const FEW: usize = 8;
+use crate::state::{accepted, refused, Answer, State};
 
 #[inline(never)]
 #[allow(clippy::too_many_arguments)]
@@ -22,37 +19,28 @@ pub fn allocate(
         Err(status) => return refused(status),
         Ok(rights) => rights,
     };
-    let area = st.current_area(t);
-    if !rights.have(Right::Allocate, area) {
+    let area = st.threads[t as usize].top().area;
+    let record = at(&mut st.areas, area as usize);
+    if !rights.have(Right::Allocate, record.class) {
         return refused(5);
     }
-    let record = &mut st.areas[area];
     let room = u64::from(record.size - record.used);
     if room <= slots || room - slots <= data_words {
         return refused(12);
     }
     let words = 1 + slots as u32 + data_words as u32;
     let offset = record.used;
-    let (at, bit) = (record.start + offset, record.bit + offset);
-    let handle = record.generation << 20 | (area as u64) << 14 | u64::from(offset);
+    let (start, bit) = (record.start + offset, record.bit + offset);
+    let handle = record.base + u64::from(offset);
     record.used += words;
     mark(m, bit, words);
-    let store = select(area, p, s);
-    put(store, at as usize, data_words << 14 | slots);
-    clear(part(store, at as usize + 1..(at + words) as usize));
+    let object = part(
+        record.class.select(p, s),
+        start as usize..(start + words) as usize,
+    );
+    put(object, 0, data_words << 14 | slots);
+    clear(part(object, 1..words as usize));
     accepted(handle)
-}
-
-impl State {
-    /// The area on top of a started thread's stack, or the heap.
-    #[inline(always)]
-    fn current_area(&self, t: u64) -> usize {
-        let thread = &self.threads[t as usize & 15];
-        match thread.len as usize {
-            0 => 0,
-            len => thread.entries[(len - 1) & 31] as usize & 63,
-        }
-    }
 }
 
 /// Of n bits of the map the first is set and the others are cleared, a word at a time.
@@ -82,13 +70,22 @@ fn clear_bits(map: &mut [u64], mut place: usize, mut n: u32) {
     }
 }
 
+/// Few words are cleared by two stores that may overlap.
 #[inline(always)]
 fn clear(words: &mut [u64]) {
-    if words.len() > FEW {
-        words.fill(0);
-        return;
+    match words.len() {
+        0 => {}
+        1 => words[0] = 0,
+        2..=3 => clear_ends::<2>(words),
+        4..=8 => clear_ends::<4>(words),
+        9..=16 => clear_ends::<8>(words),
+        _ => words.fill(0),
     }
-    for word in words {
-        *word = 0;
-    }
+}
+
+#[inline(always)]
+fn clear_ends<const N: usize>(words: &mut [u64]) {
+    let len = words.len();
+    words[..N].copy_from_slice(&[0; N]);
+    words[len - N..].copy_from_slice(&[0; N]);
 }

@@ -2,7 +2,7 @@
 
 use crate::access::{get, put};
 use crate::rights::Right;
-use crate::state::{accepted, refused, select, Answer, State, FIRST_SCOPE};
+use crate::state::{accepted, area_of, refused, Answer, State};
 
 #[inline(never)]
 #[allow(clippy::too_many_arguments)]
@@ -27,28 +27,25 @@ pub fn store(
         let Some(found) = st.look_up(p, s, m, target) else {
             return refused(15);
         };
-        if !rights.have(Right::Refer, found.area) {
+        if !rights.have(Right::Refer, found.class) {
             return refused(5);
         }
-        if !st.may_hold(holder.area, found.area) {
+        if found.class.is_scope() && !st.may_hold(area_of(object), area_of(target)) {
             return refused(16);
         }
     }
     let at = holder.at + 1 + slot as u32;
-    put(select(holder.area, p, s), at as usize, target);
+    put(holder.class.select(p, s), at as usize, target);
     accepted(0)
 }
 
 impl State {
-    /// The assignment rule by one look into a display, for areas that hold live objects.
+    /// The assignment rule by one look into a display, for areas that hold live objects, the target's a scope. No area
+    /// but an open scope has anything on its display, and that has nothing below itself.
     #[inline(always)]
     fn may_hold(&self, holder: usize, target: usize) -> bool {
-        if target < FIRST_SCOPE {
-            return true;
-        }
-        let depth = self.areas[target].depth;
-        depth <= self.areas[holder].depth
-            && self.displays[holder][(depth as usize).wrapping_sub(1) & 31] as usize == target
+        let depth = self.areas[target].depth as usize;
+        usize::from(get(&self.displays[holder], depth - 1)) == target
     }
 }
 
@@ -62,12 +59,12 @@ pub fn load(st: &State, p: &[u64], s: &[u64], m: &[u64], t: u64, object: u64, sl
         return refused(14);
     }
     let at = holder.at + 1 + slot as u32;
-    let word = get(select(holder.area, p, s), at as usize);
+    let word = get(holder.class.select(p, s), at as usize);
     if word != 0 {
         let Some(found) = st.look_up(p, s, m, word) else {
             return refused(15);
         };
-        if !rights.have(Right::Refer, found.area) {
+        if !rights.have(Right::Refer, found.class) {
             return refused(5);
         }
     }

@@ -1,7 +1,7 @@
 //! The rights table of the state, which can be loaded, and the mask that a thread keeps of its kind's rights.
 //! A table is loaded only while no thread is started, so that no mask is ever out of date.
 
-use crate::state::{accepted, refused, Answer, State, FIRST_SCOPE};
+use crate::state::{accepted, refused, Answer, State};
 
 /// For each kind and class of areas the four rights.
 pub type Table = [[[bool; 4]; 3]; 3];
@@ -21,18 +21,49 @@ pub const BUILT_IN: Table = [
     [[false; 4], [true; 4], [true; 4]],
 ];
 
-/// Bit 4 * class + right for each right, and one bit more that says that the thread is started: with a table of
-/// zeros it has no right and is started all the same.
-#[derive(Clone, Copy, Default)]
-pub struct Mask(u16);
+/// A class of areas as one bit, or none.
+#[derive(Clone, Copy, Default, PartialEq, Eq)]
+pub struct Class(u8);
+
+impl Class {
+    pub const NONE: Class = Class(0);
+    pub const HEAP: Class = Class(1);
+    pub const IMMORTAL: Class = Class(2);
+    pub const SCOPE: Class = Class(4);
+
+    #[inline(always)]
+    pub fn is_scope(self) -> bool {
+        self.0 & Class::SCOPE.0 != 0
+    }
+
+    /// The store of such an area.
+    #[inline(always)]
+    pub fn select<T>(self, permanent: T, scratch: T) -> T {
+        if self.is_scope() {
+            scratch
+        } else {
+            permanent
+        }
+    }
+}
+
+/// A byte for each right, in it a bit for each class; and a bit more that says that the thread is started: with a
+/// table of zeros it has no right and is started all the same.
+#[derive(Clone, Copy)]
+pub struct Mask(u32);
 
 impl Mask {
-    const STARTED: u16 = 1 << 12;
+    pub const NONE: Mask = Mask(0);
+    const STARTED: u32 = 1 << 31;
 
     pub fn of(kind: &[[bool; 4]; 3]) -> Mask {
-        let rights = kind.iter().flatten().enumerate();
-        let bits = rights.map(|(place, &has)| u16::from(has) << place);
-        Mask(bits.fold(Mask::STARTED, |mask, bit| mask | bit))
+        let mut mask = Mask::STARTED;
+        for (class, rights) in kind.iter().enumerate() {
+            for (right, &has) in rights.iter().enumerate() {
+                mask |= u32::from(has) << (right * 8 + class);
+            }
+        }
+        Mask(mask)
     }
 
     #[inline(always)]
@@ -41,9 +72,8 @@ impl Mask {
     }
 
     #[inline(always)]
-    pub fn have(self, right: Right, area: usize) -> bool {
-        let class = area.min(FIRST_SCOPE) as u32;
-        u32::from(self.0) >> (class * 4 + right as u32) & 1 != 0
+    pub fn have(self, right: Right, class: Class) -> bool {
+        self.0 & u32::from(class.0) << (right as u32 * 8) != 0
     }
 }
 

@@ -1,12 +1,14 @@
 //! The state's records, and what every call begins with: the caller, and the object of a handle.
 
+use std::array::from_fn;
+
 use crate::access::get;
-use crate::rights::{Mask, Right, Table, BUILT_IN};
+use crate::rights::{Class, Mask, Right, Table, BUILT_IN};
 
 pub const THREADS: u64 = 16;
 pub const AREAS: u64 = 64;
 pub const STACK_ENTRIES: usize = 32;
-pub const FIRST_SCOPE: usize = 2;
+pub const FIRST_SCOPE: u64 = 2;
 
 #[derive(Clone, Copy, Debug, PartialEq, Eq)]
 pub struct Answer {
@@ -36,7 +38,8 @@ pub fn accepted(value: u64) -> Answer {
 #[derive(Clone, Copy, Default)]
 #[repr(C, align(32))]
 pub struct Area {
-    pub generation: u64,
+    /// Its generation and its number as they stand in a handle, which adds an offset to them.
+    pub base: u64,
     /// The place of its first word in its store.
     pub start: u32,
     /// The place of that word's bit in the map.
@@ -44,21 +47,53 @@ pub struct Area {
     pub used: u32,
     pub size: u32,
     pub count: u32,
+    /// Those of a scope that is open.
     pub parent: u8,
     pub depth: u8,
+    /// None where it is a scope that is not made.
+    pub class: Class,
 }
 
+impl Area {
+    #[inline(always)]
+    pub fn generation(&self) -> u64 {
+        self.base >> 20
+    }
+}
+
+/// An entry of a stack, and the innermost scope as of it.
 #[derive(Clone, Copy, Default)]
 #[repr(C)]
+pub struct Entry {
+    pub area: u8,
+    pub inner: u8,
+}
+
+#[derive(Clone, Copy)]
+#[repr(C, align(128))]
 pub struct Thread {
     /// Those of its kind, as long as it is started.
     pub rights: Mask,
     /// 0 where it is not started.
     pub kind: u8,
     pub len: u8,
-    pub entries: [u8; STACK_ENTRIES],
-    /// Beside each entry, the innermost scope as of it.
-    pub inner: [u8; STACK_ENTRIES],
+    /// From place 1 on; place 0 stands for an empty stack: the heap, and no scope.
+    pub entries: [Entry; 1 + STACK_ENTRIES],
+}
+
+impl Thread {
+    const NEW: Thread = Thread {
+        rights: Mask::NONE,
+        kind: 0,
+        len: 0,
+        entries: [Entry { area: 0, inner: 0 }; 1 + STACK_ENTRIES],
+    };
+
+    /// The entry on top of the stack, or the one that stands for an empty stack.
+    #[inline(always)]
+    pub fn top(&self) -> Entry {
+        get(&self.entries, self.len as usize)
+    }
 }
 
 #[derive(Clone)]
@@ -76,9 +111,9 @@ pub struct State {
     pub rights: Table,
 }
 
-/// A live object: its area, the place of its header in its store, its slots and its data words.
+/// A live object: the class of its area, the place of its header in its store, its slots and its data words.
 pub struct Object {
-    pub area: usize,
+    pub class: Class,
     pub at: u32,
     pub slots: u32,
     pub data_words: u32,
@@ -88,23 +123,22 @@ impl State {
     /// An accepted set-up.
     pub fn set_up(permanent: usize, scratch: usize, map: usize, heap: u64) -> State {
         let heap = heap as u32;
-        let mut areas = [Area::default(); AREAS as usize];
-        areas[0] = Area {
-            size: heap,
-            generation: 1,
+        let mut areas: [Area; AREAS as usize] = from_fn(|number| Area {
+            base: (number as u64) << 14,
             ..Area::default()
-        };
-        areas[1] = Area {
-            start: heap,
-            bit: heap,
-            size: permanent as u32 - heap,
-            generation: 1,
-            ..Area::default()
-        };
+        });
+        areas[0].base |= 1 << 20;
+        areas[0].size = heap;
+        areas[0].class = Class::HEAP;
+        areas[1].base |= 1 << 20;
+        areas[1].start = heap;
+        areas[1].bit = heap;
+        areas[1].size = permanent as u32 - heap;
+        areas[1].class = Class::IMMORTAL;
         State {
             areas,
             displays: [[0; 32]; AREAS as usize],
-            threads: [Thread::default(); THREADS as usize],
+            threads: [Thread::NEW; THREADS as usize],
             permanent,
             scratch,
             map,
@@ -152,24 +186,25 @@ impl State {
         map: &[u64],
         handle: u64,
     ) -> Option<Object> {
-        let area = (handle >> 14 & 0x3f) as usize;
-        let offset = (handle & 0x3fff) as u32;
-        let record = &self.areas[area];
-        if handle >> 20 != record.generation || offset >= record.used {
+        let record = &self.areas[area_of(handle)];
+        // Above every offset where the generations differ, since the base has the bits of the area.
+        let offset = handle.wrapping_sub(record.base);
+        if offset >= u64::from(record.used) {
             return None;
         }
+        let offset = offset as u32;
         let bit = record.bit.wrapping_add(offset);
         if get(map, bit as usize / 64) >> (bit % 64) & 1 == 0 {
             return None;
         }
         let at = record.start.wrapping_add(offset);
-        let header = get(select(area, permanent, scratch), at as usize) as u32;
+        let header = get(record.class.select(permanent, scratch), at as usize) as u32;
         let (slots, data_words) = (header & 0x3fff, header >> 14 & 0x3fff);
         if offset + slots + data_words >= record.used {
             return None;
         }
         Some(Object {
-            area,
+            class: record.class,
             at,
             slots,
             data_words,
@@ -188,19 +223,15 @@ impl State {
     ) -> Result<(Object, Mask), u64> {
         let rights = self.caller(permanent, scratch, map, t)?;
         let object = self.look_up(permanent, scratch, map, object).ok_or(13u64)?;
-        if !rights.have(Right::Use, object.area) {
+        if !rights.have(Right::Use, object.class) {
             return Err(5);
         }
         Ok((object, rights))
     }
 }
 
-/// The store of an area.
+/// The area of a handle.
 #[inline(always)]
-pub fn select<T>(area: usize, permanent: T, scratch: T) -> T {
-    if area < FIRST_SCOPE {
-        permanent
-    } else {
-        scratch
-    }
+pub fn area_of(handle: u64) -> usize {
+    (handle >> 14 & 0x3f) as usize
 }
