@@ -1,6 +1,6 @@
 # The two commands of README.md, and what else there is to run.
 
-.PHONY: run rights test prove lib compare hosts soak bench instructions format
+.PHONY: run rights test prove lib compare hosts soak bench figures instructions format
 
 # Proves and builds the program, runs it on the specification's example, or on a list (make run LIST=file), and shows each line with its answer.
 run:
@@ -34,11 +34,16 @@ hosts:
 soak:
 	@scripts/soak $(SECONDS)
 
-# Speed, as ratios: the exported functions beside plain Rust, the program beside the second implementation. Writes docs/BENCHMARKS.md.
+# Speed, as ratios: the exported functions beside tuned and plain Rust, the program beside the second implementation. Writes
+# target/BENCHMARKS.md and target/reference-check.svg.
 bench:
 	@scripts/bench
 
-# Instructions of each exported call beside plain Rust's, after `make bench`; needs valgrind.
+# Copies what the last `make bench` wrote into docs.
+figures:
+	@scripts/figures
+
+# Instructions of each exported call beside tuned and plain Rust's alone; needs valgrind.
 instructions:
 	@scripts/instructions
 

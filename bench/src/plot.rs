@@ -2,7 +2,7 @@
 
 use std::fmt::Write;
 
-use crate::report::Check;
+use crate::distances::Check;
 
 const WIDTH: f64 = 800.0;
 const HEIGHT: f64 = 460.0;
@@ -39,7 +39,7 @@ const SERIES: [Series; 4] = [
     Series {
         name: "display (proved, exported)",
         colour: "#1f6fb2",
-        time: |check| check.core,
+        time: |check| check.exported,
     },
 ];
 

@@ -65,6 +65,38 @@ const fn side(name: &'static str, row_loop: fn(Row) -> Loop) -> Side {
     Side { name, row_loop }
 }
 
+/// A number for each side.
+#[derive(Clone, Copy, Debug, PartialEq)]
+pub struct PerSide {
+    pub exported: f64,
+    pub tuned: f64,
+    pub unchecked: f64,
+    pub plain: f64,
+    pub in_line: f64,
+}
+
+impl PerSide {
+    /// From numbers in the order of `SIDES`.
+    pub fn from_line(line: &[f64]) -> PerSide {
+        let &[exported, tuned, unchecked, plain, in_line] = line else {
+            panic!("a line has a number for each side, and not {}", line.len());
+        };
+        PerSide {
+            exported,
+            tuned,
+            unchecked,
+            plain,
+            in_line,
+        }
+    }
+}
+
+/// A line of loops for each row, one on each side.
+pub fn loops() -> Vec<Vec<Loop>> {
+    let on_sides = |&row| SIDES.iter().map(|side| (side.row_loop)(row)).collect();
+    ROWS.iter().map(on_sides).collect()
+}
+
 /// The loop of a row on one side.
 fn row_loop<M: Machine + 'static>(row: Row) -> Loop {
     match row.calls {
