@@ -139,7 +139,10 @@ impl Machine for Core {
 /// Calls of a crate's functions with the state, the buffers and numbers. Each crate has its own answers, of the same
 /// fields.
 macro_rules! called {
-    ($crate_name:ident, $($visible:vis $method:ident($($number:ident),*) -> $answer:ident { $($field:ident),* }: $function:ident;)*) => {
+    (
+        $crate_name:ident,
+        $($visible:vis $method:ident($($number:ident),*) -> $answer:ident { $($field:ident),* }: $function:ident;)*
+    ) => {
         $(#[inline(always)]
         $visible fn $method(&mut self, $($number: u64),*) -> $answer {
             let Memory { permanent, scratch, map, state } = &mut *self.memory;

@@ -1,8 +1,8 @@
 //! The measured parts of the report in Markdown: ratios first.
 
 use crate::distances::{Check, Rules};
-use crate::figures::{self, Figure, Ratio, TUNED_MARK, UNCHECKED_MARK, VIEW_MARK};
-use crate::rows::{PerSide, ROWS};
+use crate::figures::{self, Figure, Ratio, READ, TUNED, UNCHECKED};
+use crate::rows::{PerSide, Row, ROWS};
 use crate::spread::Spread;
 
 /// The first table, what it shows, and the view beside the read.
@@ -20,8 +20,8 @@ pub fn calls(figures: &[Figure]) -> String {
 fn calls_table(figures: &[Figure]) -> String {
     let headings = [
         "call".into(),
-        format!("ratio to tuned, mark {TUNED_MARK:?}"),
-        format!("ratio to tuned unchecked, mark {UNCHECKED_MARK:?}"),
+        format!("ratio to tuned, mark {:?}", TUNED.most),
+        format!("ratio to tuned unchecked, mark {:?}", UNCHECKED.most),
         "to tuned, least to most".into(),
         "to unchecked, least to most".into(),
         "exported, ns".into(),
@@ -54,11 +54,11 @@ fn calls_row(figure: &Figure) -> [String; 10] {
 fn view_table(figures: &[Figure]) -> String {
     let headings = ["side", "view / read", "least to most", "mark"].map(String::from);
     let row = |side: &str, number, mark: String| {
-        let Ratio { times, .. } = Ratio::view_to_read(figures, number);
+        let Ratio { times, .. } = figures::view_to_read(figures, number);
         [side.into(), hundredths(times.middle), range(times), mark]
     };
     let rows = [
-        row("exported", |run| run.exported, format!("{VIEW_MARK:?}")),
+        row("exported", |run| run.exported, format!("{:?}", READ.most)),
         row("tuned", |run| run.tuned, String::new()),
         row("tuned unchecked", |run| run.unchecked, String::new()),
     ];
@@ -80,7 +80,7 @@ pub fn instructions(counts: Option<&[PerSide]>) -> String {
         "plain Rust",
         "plain Rust in line",
     ];
-    let row = |(row, counts): (&crate::rows::Row, &PerSide)| {
+    let row = |(row, counts): (&Row, &PerSide)| {
         [
             row.name.into(),
             hundredths(counts.exported / counts.tuned),
@@ -229,8 +229,8 @@ mod tests {
     fn the_calls_are_told_with_their_verdict() {
         let figures = [row("read", &[10.0], None), row("view", &[12.0], None)];
         let text = calls(&figures);
-        assert!(text.contains("\n\nOver its mark: view (1.20 of tuned, mark 1.0), "));
-        assert!(text.contains("view (1.20 of a read, mark 1.1).\n\nIn no row do "));
+        assert!(text.contains("\n\nOver the mark 1.0 to tuned: view (1.20).\n"));
+        assert!(text.contains("to a read: view (1.20).\n\nOf every row the times tell"));
         assert!(text.contains("| exported | 1.20 | 1.20 to 1.20 | 1.1 |\n| tuned | 1.00 | "));
     }
 

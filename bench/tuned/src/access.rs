@@ -22,8 +22,9 @@ mod by_place {
     }
 }
 
-// SAFETY, of all three: every area ends within its store, every used word has its bit in the map, and
-// a live object ends within its area's used words. Set-up gives this and every call keeps it.
+// SAFETY, of all three: every area ends within its store, every used word has its bit in the map, a live object ends
+// within its area's used words, no stack is longer than its entries, and no scope deeper than a display. Set-up gives
+// this and every call keeps it.
 #[cfg(feature = "unchecked")]
 mod by_place {
     use super::Range;

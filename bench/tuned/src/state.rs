@@ -147,7 +147,7 @@ impl State {
         }
     }
 
-    /// Refusal 1, by one branch.
+    /// Refusal 1, as one test.
     #[inline(always)]
     pub fn other_lengths(&self, permanent: &[u64], scratch: &[u64], map: &[u64]) -> bool {
         let different = (permanent.len() ^ self.permanent)
@@ -187,7 +187,7 @@ impl State {
         handle: u64,
     ) -> Option<Object> {
         let record = &self.areas[area_of(handle)];
-        // Above every offset where the generations differ, since the base has the bits of the area.
+        // Above every offset where the generation is another: the base differs from such a handle by 2^20 or more.
         let offset = handle.wrapping_sub(record.base);
         if offset >= u64::from(record.used) {
             return None;
