@@ -34,7 +34,7 @@ hosts:
 soak:
 	@scripts/soak $(SECONDS)
 
-# Speed, as ratios: the exported functions beside tuned and plain Rust, the program beside the second implementation. Writes
+# Measures speed, as ratios: the exported functions beside tuned and plain Rust, the program beside the second implementation. Writes
 # target/BENCHMARKS.md and target/reference-check.svg.
 bench:
 	@scripts/bench
@@ -43,7 +43,7 @@ bench:
 figures:
 	@scripts/figures
 
-# Instructions of each exported call beside tuned and plain Rust's alone; needs valgrind.
+# Counts the instructions of each exported call beside tuned and plain Rust's alone; needs valgrind.
 instructions:
 	@scripts/instructions
 
