@@ -70,6 +70,7 @@ fn run(seed: u64, seen: &mut Seen) {
             handles.push(answer.value);
         }
     }
+    sides.compare_buffers();
 }
 
 /// A table in which one kind has no right at all, so that its threads are started and may do nothing.
@@ -151,17 +152,37 @@ impl Sides {
         T: Copy + PartialEq + Debug,
     {
         let answer = call(&mut self.core);
-        let others: [(&str, &mut dyn Machine); 5] = [
+        for (name, given) in self.others().map(|(name, machine)| (name, call(machine))) {
+            self.same(name, given, answer);
+        }
+        answer
+    }
+
+    /// Those that decide every store.
+    fn others(&mut self) -> [(&'static str, &mut dyn Machine); 5] {
+        [
             ("tuned Rust", &mut self.tuned),
             ("tuned Rust unchecked", &mut self.unchecked),
             ("plain Rust", &mut self.plain),
             ("plain Rust in line", &mut self.in_line),
             ("the walk", &mut self.walk),
-        ];
-        for (name, given) in others.map(|(name, machine)| (name, call(machine))) {
-            self.same(name, given, answer);
+        ]
+    }
+
+    /// After a list all hold the same words.
+    fn compare_buffers(&mut self) {
+        let expected = self.core.buffers().map(<[u64]>::to_vec);
+        let others = self
+            .others()
+            .map(|(name, machine)| (name, machine.buffers() == expected));
+        for (name, equal) in others {
+            self.same(&format!("what {name} left in the buffers"), equal, true);
         }
-        answer
+        self.same(
+            "what the scan left in the buffers",
+            self.scan.buffers() == expected,
+            true,
+        );
     }
 
     fn same<T: PartialEq + Debug>(&self, name: &str, given: T, expected: T) {

@@ -27,6 +27,8 @@ pub trait Machine {
     fn write(&mut self, t: u64, object: u64, index: u64, word: u64) -> Answer;
     fn read(&mut self, t: u64, object: u64, index: u64) -> Answer;
     fn view(&mut self, t: u64, object: u64) -> View;
+    /// The words of the lent buffers: permanent store, scratch store, map.
+    fn buffers(&self) -> [&[u64]; 3];
 }
 
 /// The lent buffers and the state, in one piece from the start of a page on, so that they lie alike on all sides;
@@ -47,6 +49,10 @@ impl<S> Memory<S> {
             map: [0; MAP],
             state,
         })
+    }
+
+    fn buffers(&self) -> [&[u64]; 3] {
+        [&self.permanent, &self.scratch, &self.map]
     }
 }
 
@@ -120,6 +126,10 @@ impl Machine for Core {
         unsafe { c::scopes_load_rights(words, bytes, text.as_ptr(), text.len()) }
     }
 
+    fn buffers(&self) -> [&[u64]; 3] {
+        self.memory.buffers()
+    }
+
     exported! {
         start(t, kind) -> Answer: scopes_start;
         make(t, area, size) -> Answer: scopes_make;
@@ -173,6 +183,10 @@ macro_rules! side {
                     status: given.status,
                     value: given.value,
                 }
+            }
+
+            fn buffers(&self) -> [&[u64]; 3] {
+                self.memory.buffers()
             }
 
             called! {
