@@ -1,5 +1,5 @@
-//! Before anything is measured: plain Rust answers as the exported functions do, by each of its rules,
-//! on random calls. What is compared with the proved core is no other core.
+//! Before anything is measured: tuned and plain Rust answer as the exported functions do on random calls,
+//! plain Rust by each of its rules. What is compared with the proved core is no other core.
 
 use std::fmt::Debug;
 
