@@ -1,13 +1,11 @@
 # The two commands of README.md, and what else there is to run.
 
-.PHONY: run rights test prove lib install compare hosts soak bench instructions format clean help
+.PHONY: run explain assemble picture rights test prove lib install compare tools hosts soak bench figures instructions format clean help
 
 # Proves and builds the program, runs it on the specification's example, or on a list (make run LIST=file), and shows each line with its answer,
 # and both in words.
 run:
 	@scripts/run $${LIST:+"$$LIST"}
-
-.PHONY: explain assemble picture tools
 
 # The same in words alone: of the example, or of a list (make explain LIST=file).
 explain:
@@ -58,11 +56,16 @@ hosts:
 soak:
 	@scripts/soak $(SECONDS)
 
-# Speed, as ratios: the exported functions beside plain Rust, the program beside the second implementation. Writes docs/BENCHMARKS.md.
+# Measures speed, as ratios: the exported functions beside tuned and plain Rust, the program beside the second implementation. Writes
+# target/BENCHMARKS.md and target/reference-check.svg.
 bench:
 	@scripts/bench
 
-# Instructions of each exported call beside plain Rust's, after `make bench`; needs valgrind.
+# Copies what the last `make bench` wrote into docs.
+figures:
+	@scripts/figures
+
+# Counts the instructions of each exported call beside tuned and plain Rust's alone; needs valgrind.
 instructions:
 	@scripts/instructions
 

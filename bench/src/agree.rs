@@ -1,11 +1,14 @@
-//! Before anything is measured: plain Rust answers as the exported functions do, by each of its rules,
-//! on random calls. What is compared with the proved core is no other core.
+//! Before anything is measured: tuned and plain Rust answer as the exported functions do on random calls,
+//! plain Rust by each of its rules. What is compared with the proved core is no other core.
+
+use std::fmt::Debug;
 
 use in_line::{check_by_display, check_by_scan, check_by_walk};
 use reference::random::Random;
-use reference::texts;
+use reference::rights::DIGITS;
+use reference::texts::{self, Text};
 
-use crate::machine::{Answer, Core, InLine, Machine, Plain, Scan, Walk};
+use crate::machine::{Answer, Core, InLine, Machine, Plain, Scan, Tuned, Unchecked, View, Walk};
 
 const LISTS: u64 = 100;
 const CALLS: u64 = 2_000;
@@ -45,7 +48,10 @@ fn run(seed: u64, seen: &mut Seen) {
     let mut random = Random::new(seed);
     let mut sides = Sides::set_up(seed);
     for _ in 0..random.below(LOADS + 1) {
-        sides.load_rights(&mut random);
+        sides.load_rights(&texts::any(&mut random));
+    }
+    if random.percent(20) {
+        sides.load_rights(&no_rights(random.below(3) as usize));
     }
     for (thread, kind) in (0..).zip(KINDS) {
         sides.call(|machine| machine.start(thread, kind));
@@ -55,7 +61,7 @@ fn run(seed: u64, seen: &mut Seen) {
         }
     }
     for _ in 0..LOADS {
-        sides.load_rights(&mut random);
+        sides.load_rights(&texts::any(&mut random));
     }
     let mut handles = vec![0];
     for _ in 0..CALLS {
@@ -64,6 +70,14 @@ fn run(seed: u64, seen: &mut Seen) {
             handles.push(answer.value);
         }
     }
+    sides.compare_buffers();
+}
+
+/// A table in which one kind has no right at all, so that its threads are started and may do nothing.
+fn no_rights(kind: usize) -> Text {
+    let mut digits = [b'1'; DIGITS];
+    digits[kind * 12..][..12].fill(b'0');
+    Text::new(&digits)
 }
 
 fn any_call(random: &mut Random, sides: &mut Sides, handles: &[u64], seen: &mut Seen) -> Answer {
@@ -72,7 +86,7 @@ fn any_call(random: &mut Random, sides: &mut Sides, handles: &[u64], seen: &mut 
     let object = handles[handles.len() - 1 - recent];
     let other = handles[random.below(handles.len() as u64) as usize];
     let index = random.below(4);
-    match random.below(16) {
+    match random.below(19) {
         0..=2 => sides.enter(t, random.below(20)),
         3..=4 => sides.exit(t),
         5..=7 => {
@@ -86,7 +100,10 @@ fn any_call(random: &mut Random, sides: &mut Sides, handles: &[u64], seen: &mut 
             let word = random.word() >> 44;
             sides.call(|machine| machine.write(t, object, index, word))
         }
-        _ => sides.call(|machine| machine.read(t, object, index)),
+        15 => sides.call(|machine| machine.read(t, object, index)),
+        16..=17 => sides.view(t, object),
+        // A thread that is started already.
+        _ => sides.call(|machine| machine.start(t % KINDS.len() as u64, 1 + index)),
     }
 }
 
@@ -94,6 +111,8 @@ fn any_call(random: &mut Random, sides: &mut Sides, handles: &[u64], seen: &mut 
 struct Sides {
     seed: u64,
     core: Core,
+    tuned: Tuned,
+    unchecked: Unchecked,
     plain: Plain,
     in_line: InLine,
     walk: Walk,
@@ -107,6 +126,8 @@ impl Sides {
         Sides {
             seed,
             core: Core::set_up(),
+            tuned: Tuned::set_up(),
+            unchecked: Unchecked::set_up(),
             plain: Plain::set_up(),
             in_line: InLine::set_up(),
             walk: Walk::set_up(),
@@ -116,32 +137,59 @@ impl Sides {
     }
 
     /// A call that the sides answer alike.
-    fn call(&mut self, call: impl Fn(&mut dyn Machine) -> Answer) -> Answer {
+    fn call<T>(&mut self, call: impl Fn(&mut dyn Machine) -> T) -> T
+    where
+        T: Copy + PartialEq + Debug,
+    {
         let answer = self.call_but_scan(&call);
         let scanned = call(&mut self.scan);
         self.same("the scan", scanned, answer);
         answer
     }
 
-    fn call_but_scan(&mut self, call: impl Fn(&mut dyn Machine) -> Answer) -> Answer {
+    fn call_but_scan<T>(&mut self, call: impl Fn(&mut dyn Machine) -> T) -> T
+    where
+        T: Copy + PartialEq + Debug,
+    {
         let answer = call(&mut self.core);
-        let others: [(&str, &mut dyn Machine); 3] = [
-            ("plain Rust", &mut self.plain),
-            ("plain Rust in line", &mut self.in_line),
-            ("the walk", &mut self.walk),
-        ];
-        for (name, given) in others.map(|(name, machine)| (name, call(machine))) {
+        for (name, given) in self.others().map(|(name, machine)| (name, call(machine))) {
             self.same(name, given, answer);
         }
         answer
     }
 
-    fn same<T: PartialEq + std::fmt::Debug>(&self, name: &str, given: T, expected: T) {
+    /// Those that decide every store.
+    fn others(&mut self) -> [(&'static str, &mut dyn Machine); 5] {
+        [
+            ("tuned Rust", &mut self.tuned),
+            ("tuned Rust unchecked", &mut self.unchecked),
+            ("plain Rust", &mut self.plain),
+            ("plain Rust in line", &mut self.in_line),
+            ("the walk", &mut self.walk),
+        ]
+    }
+
+    /// After a list all hold the same words.
+    fn compare_buffers(&mut self) {
+        let expected = self.core.buffers().map(<[u64]>::to_vec);
+        let others = self
+            .others()
+            .map(|(name, machine)| (name, machine.buffers() == expected));
+        for (name, equal) in others {
+            self.same(&format!("what {name} left in the buffers"), equal, true);
+        }
+        self.same(
+            "what the scan left in the buffers",
+            self.scan.buffers() == expected,
+            true,
+        );
+    }
+
+    fn same<T: PartialEq + Debug>(&self, name: &str, given: T, expected: T) {
         assert_eq!(given, expected, "{name} differs, seed {}", self.seed);
     }
 
-    fn load_rights(&mut self, random: &mut Random) {
-        let text = texts::any(random);
+    fn load_rights(&mut self, text: &Text) {
         self.call(|machine| machine.load_rights(text.bytes()));
     }
 
@@ -159,6 +207,12 @@ impl Sides {
             self.rows[t as usize].pop();
         }
         answer
+    }
+
+    /// The view of an object; its status is looked at no further.
+    fn view(&mut self, t: u64, object: u64) -> Answer {
+        let View { status, .. } = self.call(|machine| machine.view(t, object));
+        Answer { status, value: 0 }
     }
 
     /// The scan decides where both areas stand on the thread's own stack; the display decides for it

@@ -1,11 +1,12 @@
-//! The sides that are measured, behind one set of calls: the exported functions, and plain Rust.
+//! The sides that are measured, behind one set of calls: the exported functions, the core tuned for speed in Rust,
+//! and plain Rust.
 
 use exports::exports as c;
 
 /// What a call answers, on every side.
-pub use c::Answer;
+pub use c::{Answer, View};
 
-/// Sizes of the lent buffers, the same on both sides.
+/// Sizes of the lent buffers, the same on all sides.
 pub const PERMANENT: usize = 2_048;
 pub const HEAP: u64 = 1_024;
 pub const SCRATCH: usize = 16_384;
@@ -25,22 +26,33 @@ pub trait Machine {
     fn load(&mut self, t: u64, object: u64, slot: u64) -> Answer;
     fn write(&mut self, t: u64, object: u64, index: u64, word: u64) -> Answer;
     fn read(&mut self, t: u64, object: u64, index: u64) -> Answer;
+    fn view(&mut self, t: u64, object: u64) -> View;
+    /// The words of the lent buffers: permanent store, scratch store, map.
+    fn buffers(&self) -> [&[u64]; 3];
 }
 
-/// The lent buffers.
-struct Supplied {
-    permanent: Vec<u64>,
-    scratch: Vec<u64>,
-    map: Vec<u64>,
+/// The lent buffers and the state, in one piece from the start of a page on, so that they lie alike on all sides;
+/// the state is aligned to 64 bytes.
+#[repr(C, align(4096))]
+struct Memory<S> {
+    permanent: [u64; PERMANENT],
+    scratch: [u64; SCRATCH],
+    map: [u64; MAP],
+    state: S,
 }
 
-impl Supplied {
-    fn new() -> Supplied {
-        Supplied {
-            permanent: vec![0; PERMANENT],
-            scratch: vec![0; SCRATCH],
-            map: vec![0; MAP],
-        }
+impl<S> Memory<S> {
+    fn new(state: S) -> Box<Memory<S>> {
+        Box::new(Memory {
+            permanent: [0; PERMANENT],
+            scratch: [0; SCRATCH],
+            map: [0; MAP],
+            state,
+        })
+    }
+
+    fn buffers(&self) -> [&[u64]; 3] {
+        [&self.permanent, &self.scratch, &self.map]
     }
 }
 
@@ -54,42 +66,48 @@ struct Tables {
 }
 
 pub struct Core {
-    state: Box<Tables>,
-    supplied: Supplied,
+    memory: Box<Memory<Tables>>,
 }
 
-/// A call of an exported function with the state, the buffers and numbers.
-macro_rules! call {
-    ($function:ident, $core:ident, $($number:expr),*) => {{
-        let Core { state, supplied } = $core;
-        // SAFETY: the state is one of set-up and calls; the buffers are slices with their lengths.
-        unsafe {
-            c::$function(
-                state.words.as_mut_ptr(),
-                state.bytes.as_mut_ptr(),
-                supplied.permanent.as_mut_ptr(),
-                supplied.permanent.len(),
-                supplied.scratch.as_mut_ptr(),
-                supplied.scratch.len(),
-                supplied.map.as_mut_ptr(),
-                supplied.map.len(),
-                $($number),*
-            )
-        }
-    }};
+/// Calls of exported functions with the state, the buffers and numbers.
+macro_rules! exported {
+    ($($method:ident($($number:ident),*) -> $answer:ident: $function:ident;)*) => {
+        $(#[inline(always)]
+        fn $method(&mut self, $($number: u64),*) -> $answer {
+            let Memory { permanent, scratch, map, state } = &mut *self.memory;
+            // SAFETY: the state is one of set-up and calls, with the buffers of its set-up, which are arrays with
+            // their lengths.
+            unsafe {
+                c::$function(
+                    state.words.as_mut_ptr(),
+                    state.bytes.as_mut_ptr(),
+                    permanent.as_mut_ptr(),
+                    permanent.len(),
+                    scratch.as_mut_ptr(),
+                    scratch.len(),
+                    map.as_mut_ptr(),
+                    map.len(),
+                    $($number),*
+                )
+            }
+        })*
+    };
 }
 
 impl Machine for Core {
     fn set_up() -> Core {
-        let supplied = Supplied::new();
-        // SAFETY: three slices with their lengths.
+        let mut memory = Memory::new(Tables {
+            words: [0; 548],
+            bytes: [0; 3108],
+        });
+        // SAFETY: three arrays with their lengths.
         let state = unsafe {
             c::scopes_set_up(
-                supplied.permanent.as_ptr(),
+                memory.permanent.as_ptr(),
                 PERMANENT,
-                supplied.scratch.as_ptr(),
+                memory.scratch.as_ptr(),
                 SCRATCH,
-                supplied.map.as_ptr(),
+                memory.map.as_ptr(),
                 MAP,
                 HEAP,
                 PERMANENT as u64 - HEAP,
@@ -97,199 +115,116 @@ impl Machine for Core {
         };
         assert_eq!(state.status, 0);
         let c::NewState { words, bytes, .. } = state;
-        let state = Box::new(Tables { words, bytes });
-        Core { state, supplied }
+        memory.state = Tables { words, bytes };
+        Core { memory }
     }
 
     fn load_rights(&mut self, text: &[u8]) -> Answer {
-        let Tables { words, bytes } = &mut *self.state;
+        let Tables { words, bytes } = &mut self.memory.state;
         let (words, bytes) = (words.as_ptr(), bytes.as_mut_ptr());
         // SAFETY: the state is one of set-up and calls; the text is a slice with its length.
         unsafe { c::scopes_load_rights(words, bytes, text.as_ptr(), text.len()) }
     }
 
-    #[inline(always)]
-    fn start(&mut self, t: u64, kind: u64) -> Answer {
-        call!(scopes_start, self, t, kind)
+    fn buffers(&self) -> [&[u64]; 3] {
+        self.memory.buffers()
     }
 
-    #[inline(always)]
-    fn make(&mut self, t: u64, area: u64, size: u64) -> Answer {
-        call!(scopes_make, self, t, area, size)
-    }
-
-    #[inline(always)]
-    fn enter(&mut self, t: u64, area: u64) -> Answer {
-        call!(scopes_enter, self, t, area)
-    }
-
-    #[inline(always)]
-    fn exit(&mut self, t: u64) -> Answer {
-        call!(scopes_exit, self, t)
-    }
-
-    #[inline(always)]
-    fn allocate(&mut self, t: u64, slots: u64, data_words: u64) -> Answer {
-        call!(scopes_allocate, self, t, slots, data_words)
-    }
-
-    #[inline(always)]
-    fn store(&mut self, t: u64, object: u64, slot: u64, target: u64) -> Answer {
-        call!(scopes_store, self, t, object, slot, target)
-    }
-
-    #[inline(always)]
-    fn load(&mut self, t: u64, object: u64, slot: u64) -> Answer {
-        call!(scopes_load, self, t, object, slot)
-    }
-
-    #[inline(always)]
-    fn write(&mut self, t: u64, object: u64, index: u64, word: u64) -> Answer {
-        call!(scopes_write, self, t, object, index, word)
-    }
-
-    #[inline(always)]
-    fn read(&mut self, t: u64, object: u64, index: u64) -> Answer {
-        call!(scopes_read, self, t, object, index)
+    exported! {
+        start(t, kind) -> Answer: scopes_start;
+        make(t, area, size) -> Answer: scopes_make;
+        enter(t, area) -> Answer: scopes_enter;
+        exit(t) -> Answer: scopes_exit;
+        allocate(t, slots, data_words) -> Answer: scopes_allocate;
+        store(t, object, slot, target) -> Answer: scopes_store;
+        load(t, object, slot) -> Answer: scopes_load;
+        write(t, object, index, word) -> Answer: scopes_write;
+        read(t, object, index) -> Answer: scopes_read;
+        view(t, object) -> View: scopes_view_place;
     }
 }
 
-// ---- plain Rust
+// ---- the cores in Rust
 
-/// A call of a plain function with the state, the buffers and numbers.
-macro_rules! run {
-    ($function:path, $state:expr, $supplied:expr, $($number:expr),*) => {{
-        let Supplied { permanent, scratch, map } = $supplied;
-        let answer = $function($state, permanent, scratch, map, $($number),*);
-        Answer { status: answer.status, value: answer.value }
-    }};
+/// Calls of a crate's functions with the state, the buffers and numbers. Each crate has its own answers, of the same
+/// fields.
+macro_rules! called {
+    (
+        $crate_name:ident,
+        $($visible:vis $method:ident($($number:ident),*) -> $answer:ident { $($field:ident),* }: $function:ident;)*
+    ) => {
+        $(#[inline(always)]
+        $visible fn $method(&mut self, $($number: u64),*) -> $answer {
+            let Memory { permanent, scratch, map, state } = &mut *self.memory;
+            let given = $crate_name::$function(state, permanent, scratch, map, $($number),*);
+            $answer { $($field: given.$field),* }
+        })*
+    };
 }
-/// A side over one compilation of plain Rust, with one of its stores.
-macro_rules! plain_side {
-    ($side:ident, $module:ident, $store:ident) => {
+
+/// A side over one of these crates, with one of its stores.
+macro_rules! side {
+    ($side:ident, $crate_name:ident, $store:ident) => {
         pub struct $side {
-            state: Box<$module::State>,
-            supplied: Supplied,
+            memory: Box<Memory<$crate_name::State>>,
         }
 
         impl Machine for $side {
             fn set_up() -> $side {
+                let state = $crate_name::State::set_up(PERMANENT, SCRATCH, MAP, HEAP);
                 $side {
-                    state: Box::new($module::State::set_up(PERMANENT, SCRATCH, MAP, HEAP)),
-                    supplied: Supplied::new(),
+                    memory: Memory::new(state),
                 }
             }
 
             fn load_rights(&mut self, text: &[u8]) -> Answer {
-                let answer = $module::load_rights(&mut self.state, text);
+                let given = $crate_name::load_rights(&mut self.memory.state, text);
                 Answer {
-                    status: answer.status,
-                    value: answer.value,
+                    status: given.status,
+                    value: given.value,
                 }
             }
 
-            #[inline(always)]
-            fn start(&mut self, t: u64, kind: u64) -> Answer {
-                run!($module::start, &mut self.state, &self.supplied, t, kind)
+            fn buffers(&self) -> [&[u64]; 3] {
+                self.memory.buffers()
             }
 
-            #[inline(always)]
-            fn make(&mut self, t: u64, area: u64, size: u64) -> Answer {
-                run!(
-                    $module::make,
-                    &mut self.state,
-                    &self.supplied,
-                    t,
-                    area,
-                    size
-                )
-            }
-
-            #[inline(always)]
-            fn enter(&mut self, t: u64, area: u64) -> Answer {
-                run!($module::enter, &mut self.state, &self.supplied, t, area)
-            }
-
-            #[inline(always)]
-            fn exit(&mut self, t: u64) -> Answer {
-                run!($module::exit, &mut self.state, &self.supplied, t)
-            }
-
-            #[inline(always)]
-            fn allocate(&mut self, t: u64, slots: u64, data_words: u64) -> Answer {
-                run!(
-                    $module::allocate,
-                    &mut self.state,
-                    &mut self.supplied,
-                    t,
-                    slots,
-                    data_words
-                )
-            }
-
-            #[inline(always)]
-            fn store(&mut self, t: u64, object: u64, slot: u64, target: u64) -> Answer {
-                run!(
-                    $module::$store,
-                    &self.state,
-                    &mut self.supplied,
-                    t,
-                    object,
-                    slot,
-                    target
-                )
-            }
-
-            #[inline(always)]
-            fn load(&mut self, t: u64, object: u64, slot: u64) -> Answer {
-                run!($module::load, &self.state, &self.supplied, t, object, slot)
-            }
-
-            #[inline(always)]
-            fn write(&mut self, t: u64, object: u64, index: u64, word: u64) -> Answer {
-                run!(
-                    $module::write,
-                    &self.state,
-                    &mut self.supplied,
-                    t,
-                    object,
-                    index,
-                    word
-                )
-            }
-
-            #[inline(always)]
-            fn read(&mut self, t: u64, object: u64, index: u64) -> Answer {
-                run!($module::read, &self.state, &self.supplied, t, object, index)
+            called! {
+                $crate_name,
+                start(t, kind) -> Answer { status, value }: start;
+                make(t, area, size) -> Answer { status, value }: make;
+                enter(t, area) -> Answer { status, value }: enter;
+                exit(t) -> Answer { status, value }: exit;
+                allocate(t, slots, data_words) -> Answer { status, value }: allocate;
+                store(t, object, slot, target) -> Answer { status, value }: $store;
+                load(t, object, slot) -> Answer { status, value }: load;
+                write(t, object, index, word) -> Answer { status, value }: write;
+                read(t, object, index) -> Answer { status, value }: read;
+                view(t, object) -> View { status, store, from, len }: view;
             }
         }
     };
 }
 
-plain_side!(Plain, plain, store);
-plain_side!(InLine, in_line, store);
-plain_side!(Walk, in_line, store_by_walk);
-plain_side!(Scan, in_line, store_by_scan);
+side!(Tuned, tuned, store);
+side!(Unchecked, tuned_unchecked, store);
+side!(Plain, plain, store);
+side!(InLine, in_line, store);
+side!(Walk, in_line, store_by_walk);
+side!(Scan, in_line, store_by_scan);
 
 impl InLine {
     /// One of the rules alone.
     #[inline(always)]
     pub fn check(&self, rule: in_line::Rule, t: u64, holder: u64, target: u64) -> bool {
-        rule(&self.state, t, holder as usize, target as usize)
+        rule(&self.memory.state, t, holder as usize, target as usize)
     }
 }
 
 impl Scan {
-    /// A store that the scan does not decide.
-    pub fn store_by_display(&mut self, t: u64, object: u64, slot: u64, target: u64) -> Answer {
-        run!(
-            in_line::store,
-            &self.state,
-            &mut self.supplied,
-            t,
-            object,
-            slot,
-            target
-        )
+    called! {
+        in_line,
+        // A store that the scan does not decide.
+        pub store_by_display(t, object, slot, target) -> Answer { status, value }: store;
     }
 }

@@ -1,181 +1,57 @@
-//! Measures the exported functions beside plain Rust and writes the report in Markdown.
+//! Measures the exported functions beside Rust and writes the measured parts of the report.
 //!
-//! `bench PLOT.svg` prints the report and writes the plot; it measures by running `bench times` again and
-//! again. `bench agree` only tries whether the sides answer alike, which is tried before measuring too.
-//! `bench count ROW SIDE CALLS` only makes the calls of a row on one side, for a tool that counts
-//! instructions; `bench rows` names the rows.
+//! `bench report FOLDER` writes them; it measures by running `bench times` again and again, and counts instructions
+//! by running `bench count` under valgrind. `bench instructions` prints the counts alone, `bench agree` only tries
+//! whether the sides answer alike, which is tried before measuring too. `bench count ROW SIDE CALLS` makes the calls
+//! of a row on one side and nothing else; `bench rows` and `bench sides` name what it knows.
 
 mod agree;
+mod distances;
+mod figures;
+mod instructions;
 mod machine;
 mod measure;
 mod plot;
 mod report;
+mod rows;
 mod runs;
 mod scenes;
+mod spread;
 
-use machine::{Core, InLine, Machine, Plain, Scan, Walk};
-use measure::Loop;
-use runs::{Spread, Times};
-use scenes::{Nest, Room};
+use std::path::Path;
 
-/// How deep the calls on objects are nested, and how far above their target is.
-const DEPTH: u64 = 8;
-const DISTANCE: u64 = 4;
-/// Those of the reference check: from the scope itself to the outermost of 32.
-const DISTANCES: [u64; 7] = [0, 1, 2, 4, 8, 16, 31];
-/// Runs of the whole measurement, each in a process of its own.
-const RUNS: usize = 7;
-
-/// A row of the first table.
-struct Row {
-    name: &'static str,
-    limit: f64,
-}
-
-const ROWS: [Row; 11] = [
-    row("store", 1.0),
-    row("load", 1.0),
-    row("read", 1.0),
-    row("write", 1.0),
-    row("enter + exit, depth 1", 1.1),
-    row("enter + exit, depth 8", 1.1),
-    row("enter + exit, depth 31", 1.1),
-    row("allocate, 0 data words", 1.1),
-    row("allocate, 1 data word", 1.1),
-    row("allocate, 8 data words", 1.1),
-    row("allocate, 64 data words", 1.1),
-];
-
-const fn row(name: &'static str, limit: f64) -> Row {
-    Row { name, limit }
-}
-
-/// The loop of a row on one side.
-fn row_loop<M: Machine + 'static>(row: usize) -> Loop {
-    let (mut nest, mut room) = (Nest::<M>::new(DEPTH), Room::<M>::new());
-    match row {
-        0 => Box::new(move |calls| nest.store(calls, DISTANCE)),
-        1 => Box::new(move |calls| nest.load(calls, DISTANCE)),
-        2 => Box::new(move |calls| nest.read(calls)),
-        3 => Box::new(move |calls| nest.write(calls)),
-        4..=6 => {
-            let mut nest = Nest::<M>::new([0, 7, 30][row - 4]);
-            Box::new(move |calls| nest.enter_and_exit(calls))
-        }
-        _ => Box::new(move |calls| room.allocate(calls, [0, 1, 8, 64][row - 7])),
-    }
-}
-
-/// The times of this process: those of the rows, then those of stores at nesting distances on a stack of 32
-/// scopes, then those of the reference check alone.
-fn times() -> Times {
-    let rows = (0..ROWS.len()).flat_map(|row| {
-        [
-            row_loop::<Core>(row),
-            row_loop::<Plain>(row),
-            row_loop::<InLine>(row),
-        ]
-    });
-    let rows = measure::best(&mut rows.collect::<Vec<Loop>>());
-    let checks = DISTANCES.iter().flat_map(|&distance| {
-        [
-            store_loop::<Core>(distance),
-            store_loop::<InLine>(distance),
-            store_loop::<Walk>(distance),
-            store_loop::<Scan>(distance),
-        ]
-    });
-    let checks = measure::best(&mut checks.collect::<Vec<Loop>>());
-    let rules = DISTANCES.iter().flat_map(|&distance| {
-        [
-            rule_loop(distance, in_line::check_by_display),
-            rule_loop(distance, in_line::check_by_walk),
-            rule_loop(distance, in_line::check_by_scan),
-        ]
-    });
-    let rules = measure::best(&mut rules.collect::<Vec<Loop>>());
-    let lines = rows
-        .chunks(3)
-        .chain(checks.chunks(4))
-        .chain(rules.chunks(3));
-    lines.map(<[f64]>::to_vec).collect()
-}
-
-fn figures(runs: &[Times]) -> Vec<report::Figure> {
-    let sides = |line: &Vec<f64>| report::Sides {
-        core: line[0],
-        plain: line[1],
-        in_line: line[2],
-    };
-    let figure = |(place, row): (usize, &Row)| report::Figure {
-        name: row.name,
-        limit: row.limit,
-        runs: runs.iter().map(|times| sides(&times[place])).collect(),
-    };
-    ROWS.iter().enumerate().map(figure).collect()
-}
-
-fn checks(runs: &[Times]) -> Vec<report::Check> {
-    let check = |(place, &distance): (usize, &u64)| {
-        let middle = |side| middle(runs, ROWS.len() + place, side);
-        report::Check {
-            distance,
-            core: middle(0),
-            display: middle(1),
-            walk: middle(2),
-            scan: middle(3),
-        }
-    };
-    DISTANCES.iter().enumerate().map(check).collect()
-}
-
-fn rules(runs: &[Times]) -> Vec<report::Rules> {
-    let rule = |(place, &distance): (usize, &u64)| {
-        let middle = |side| middle(runs, ROWS.len() + DISTANCES.len() + place, side);
-        report::Rules {
-            distance,
-            display: middle(0),
-            walk: middle(1),
-            scan: middle(2),
-        }
-    };
-    DISTANCES.iter().enumerate().map(rule).collect()
-}
-
-/// The middle time of a side in a line of all runs.
-fn middle(runs: &[Times], line: usize, side: usize) -> f64 {
-    Spread::of(runs.iter().map(|times| times[line][side])).middle
-}
-
-fn store_loop<M: Machine + 'static>(distance: u64) -> Loop {
-    let mut nest = Nest::<M>::new(32);
-    Box::new(move |calls| nest.store(calls, distance))
-}
-
-fn rule_loop(distance: u64, rule: in_line::Rule) -> Loop {
-    let nest = Nest::<InLine>::new(32);
-    Box::new(move |calls| nest.check(calls, distance, rule))
-}
+use rows::{ROWS, SIDES};
+use runs::Times;
 
 /// Makes the calls of a row on one side and nothing else.
 fn count(row: &str, side: &str, calls: &str) -> Option<()> {
-    let place = ROWS.iter().position(|r| r.name == row)?;
-    let mut run = match side {
-        "core" => row_loop::<Core>(place),
-        "plain" => row_loop::<Plain>(place),
-        "in_line" => row_loop::<InLine>(place),
-        _ => return None,
-    };
-    run(calls.parse().ok()?);
+    let row = ROWS.iter().find(|known| known.name == row)?;
+    let side = SIDES.iter().find(|known| known.name == side)?;
+    let calls = calls.parse().ok()?;
+    (side.row_loop)(*row)(calls);
     Some(())
 }
 
-fn measure_all(plot: &str) {
+/// Measures everything and writes each part of the report into a file of the folder.
+fn report(folder: &Path) {
+    std::fs::create_dir_all(folder).expect("the folder can be made");
     agree::check();
-    let runs = runs::repeat(RUNS);
-    let checks = checks(&runs);
-    report::print(&figures(&runs), &checks, &rules(&runs));
-    std::fs::write(plot, plot::svg(&checks)).expect("the plot can be written");
+    let runs = runs::repeat();
+    let counts = instructions::count();
+    let figures = figures::figures(&runs, counts.as_deref());
+    let checks = distances::checks(&runs);
+    let parts = [
+        ("calls.md", report::calls(&figures)),
+        ("instructions.md", report::instructions(counts.as_deref())),
+        (
+            "distances.md",
+            report::distances(&checks, &distances::rules(&runs)),
+        ),
+        ("reference-check.svg", plot::svg(&checks)),
+    ];
+    for (name, part) in parts {
+        std::fs::write(folder.join(name), part).expect("the folder can be written");
+    }
 }
 
 /// Does what the words ask for, where they do.
@@ -184,8 +60,10 @@ fn obey(words: &[&str]) -> Option<()> {
         ["count", row, side, calls] => count(row, side, calls)?,
         ["agree"] => println!("{}", agree::check()),
         ["rows"] => ROWS.iter().for_each(|row| println!("{}", row.name)),
-        ["times"] => runs::print(&times()),
-        [plot] if plot.ends_with(".svg") => measure_all(plot),
+        ["sides"] => SIDES.iter().for_each(|side| println!("{}", side.name)),
+        ["times"] => print!("{}", Times::measure().text()),
+        ["instructions"] => print!("{}", report::instructions(instructions::count().as_deref())),
+        ["report", folder] => report(Path::new(folder)),
         _ => return None,
     }
     Some(())
@@ -196,8 +74,8 @@ fn main() {
     let words: Vec<&str> = words.iter().map(String::as_str).collect();
     if obey(&words).is_none() {
         eprintln!(
-            "usage: bench PLOT.svg, bench agree, bench times, bench rows, \
-             or bench count ROW core|plain|in_line CALLS"
+            "usage: bench report FOLDER, bench instructions, bench agree, bench times, bench rows, bench sides, \
+             or bench count ROW SIDE CALLS"
         );
         std::process::exit(2);
     }

@@ -10,16 +10,22 @@ const CALLS: u64 = 4_000;
 /// A loop that makes a number of calls.
 pub type Loop = Box<dyn FnMut(u64)>;
 
-/// Nanoseconds for a call, the best run of each loop.
-pub fn best(loops: &mut [Loop]) -> Vec<f64> {
-    let mut best = vec![f64::MAX; loops.len()];
+/// Nanoseconds for a call, the best run of each loop, in the lines in which the loops stand.
+pub fn best(mut lines: Vec<Vec<Loop>>) -> Vec<Vec<f64>> {
+    let unmeasured = |line: &Vec<Loop>| vec![f64::MAX; line.len()];
+    let mut best: Vec<Vec<f64>> = lines.iter().map(unmeasured).collect();
     for _ in 0..ROUNDS {
-        for (run, best) in loops.iter_mut().zip(&mut best) {
-            let start = Instant::now();
-            run(CALLS);
-            let each = start.elapsed().as_nanos() as f64 / CALLS as f64;
-            *best = best.min(each);
+        let loops = lines.iter_mut().flatten();
+        for (run, best) in loops.zip(best.iter_mut().flatten()) {
+            *best = best.min(nanoseconds(run));
         }
     }
     best
+}
+
+/// Nanoseconds for a call in one short run.
+fn nanoseconds(run: &mut Loop) -> f64 {
+    let start = Instant::now();
+    run(CALLS);
+    start.elapsed().as_nanos() as f64 / CALLS as f64
 }

@@ -12,6 +12,15 @@ pub struct Answer {
     pub value: u64,
 }
 
+/// Where an object's data words lie: in the permanent (0) or the scratch store (1), from a word on.
+#[derive(Clone, Copy, Debug, PartialEq, Eq)]
+pub struct View {
+    pub status: u64,
+    pub store: u64,
+    pub from: u64,
+    pub len: u64,
+}
+
 #[derive(Clone, Copy)]
 pub struct Area {
     pub start: u64,
@@ -447,7 +456,7 @@ fn clear_bits(map: &mut [u64], w: usize, n: usize) {
     }
 }
 
-// ---- ops 07 to 0a
+// ---- ops 07 to 0a, and the view
 
 /// The assignment rule by one look into a display (source 004, Algorithm 9).
 #[cfg_attr(feature = "in_line", inline(always))]
@@ -649,4 +658,22 @@ pub fn read(
     }
     let at = object.at + 1 + (object.slots + index) as usize;
     accepted(if object.area < 2 { p[at] } else { s[at] })
+}
+
+#[inline(never)]
+pub fn view(st: &State, p: &[u64], s: &[u64], m: &[u64], t: u64, object: u64) -> View {
+    match st.usable(p, s, m, t, object) {
+        Err(status) => View {
+            status,
+            store: 0,
+            from: 0,
+            len: 0,
+        },
+        Ok((object, _)) => View {
+            status: 0,
+            store: u64::from(object.area >= 2),
+            from: object.at as u64 + 1 + object.slots,
+            len: object.data_words,
+        },
+    }
 }

@@ -2,7 +2,7 @@
 
 use std::fmt::Write;
 
-use crate::report::Check;
+use crate::distances::Check;
 
 const WIDTH: f64 = 800.0;
 const HEIGHT: f64 = 460.0;
@@ -39,7 +39,7 @@ const SERIES: [Series; 4] = [
     Series {
         name: "display (proved, exported)",
         colour: "#1f6fb2",
-        time: |check| check.core,
+        time: |check| check.exported,
     },
 ];
 
@@ -157,4 +157,34 @@ fn legend(out: &mut String, series: &Series, place: usize) {
     let stroke = format!("stroke=\"{}\" stroke-width=\"3\"", series.colour);
     segment(out, (left, at), (left + 18.0, at), &stroke);
     text(out, left + 25.0, at + 4.5, "font-size=\"12\"", series.name);
+}
+
+#[cfg(test)]
+mod tests {
+    use super::*;
+
+    fn check(distance: u64, time: f64) -> Check {
+        Check {
+            distance,
+            exported: time,
+            display: time / 2.0,
+            walk: time / 2.0,
+            scan: time / 2.0,
+        }
+    }
+
+    #[test]
+    fn the_axis_ends_at_a_step_above_every_time() {
+        let tops = [6.0, 9.5, 41.0, 52.0].map(|time| scale(&[check(1, time)]));
+        assert_eq!(tops, [6.0, 10.0, 50.0, 60.0]);
+    }
+
+    #[test]
+    fn every_time_is_a_point_at_its_place() {
+        let plot = svg(&[check(0, 5.0), check(32, 10.0)]);
+        // The exported store's line runs from the middle of the left edge to the upper right corner.
+        assert!(plot.contains("points=\"70.0,225.0 560.0,60.0\""));
+        assert_eq!(plot.matches("<circle").count(), SERIES.len() * 2);
+        assert_eq!(plot.matches("<polyline").count(), SERIES.len());
+    }
 }

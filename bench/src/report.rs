@@ -1,121 +1,280 @@
-//! The report in Markdown: ratios first.
+//! The measured parts of the report in Markdown: ratios first.
 
-use crate::runs::Spread;
+use crate::distances::{Check, Rules};
+use crate::figures::{self, Figure, Ratio, READ, TUNED, UNCHECKED};
+use crate::rows::{PerSide, Row, ROWS};
+use crate::spread::Spread;
 
-/// A call, and the ratio that is to be reached: nanoseconds on each side, a line for each run.
-pub struct Figure {
-    pub name: &'static str,
-    pub limit: f64,
-    pub runs: Vec<Sides>,
+/// The first table, what it shows, and the view beside the read.
+pub fn calls(figures: &[Figure]) -> String {
+    let marked = figures::marked(figures);
+    [
+        calls_table(figures),
+        figures::verdict(&marked) + "\n",
+        figures::vague(&marked) + "\n",
+        view_table(figures),
+    ]
+    .join("\n")
 }
 
-pub struct Sides {
-    pub core: f64,
-    pub plain: f64,
-    pub in_line: f64,
+fn calls_table(figures: &[Figure]) -> String {
+    let headings = [
+        "call".into(),
+        format!("ratio to tuned, mark {:?}", TUNED.most),
+        format!("ratio to tuned unchecked, mark {:?}", UNCHECKED.most),
+        "to tuned, least to most".into(),
+        "to unchecked, least to most".into(),
+        "exported, ns".into(),
+        "tuned, ns".into(),
+        "unchecked, ns".into(),
+        "ratio to plain Rust".into(),
+        "ratio to plain Rust in line".into(),
+    ];
+    table(&headings, figures.iter().map(calls_row))
 }
 
-impl Figure {
-    fn spread(&self, number: impl Fn(&Sides) -> f64) -> Spread {
-        Spread::of(self.runs.iter().map(number))
-    }
+fn calls_row(figure: &Figure) -> [String; 10] {
+    let tuned = figure.spread(|run| run.exported / run.tuned);
+    let unchecked = figure.spread(|run| run.exported / run.unchecked);
+    let middle = |number: fn(&PerSide) -> f64| hundredths(figure.spread(number).middle);
+    [
+        figure.name.into(),
+        hundredths(tuned.middle),
+        hundredths(unchecked.middle),
+        range(tuned),
+        range(unchecked),
+        middle(|run| run.exported),
+        middle(|run| run.tuned),
+        middle(|run| run.unchecked),
+        middle(|run| run.exported / run.plain),
+        middle(|run| run.exported / run.in_line),
+    ]
 }
 
-/// A store at a nesting distance, nanoseconds: the exported one, and plain Rust, all in line, by the three
-/// rules.
-pub struct Check {
-    pub distance: u64,
-    pub core: f64,
-    pub display: f64,
-    pub walk: f64,
-    pub scan: f64,
+fn view_table(figures: &[Figure]) -> String {
+    let headings = ["side", "view / read", "least to most", "mark"].map(String::from);
+    let row = |side: &str, number, mark: String| {
+        let Ratio { times, .. } = figures::view_to_read(figures, number);
+        [side.into(), hundredths(times.middle), range(times), mark]
+    };
+    let rows = [
+        row("exported", |run| run.exported, format!("{:?}", READ.most)),
+        row("tuned", |run| run.tuned, String::new()),
+        row("tuned unchecked", |run| run.unchecked, String::new()),
+    ];
+    table(&headings, rows.into_iter())
 }
 
-/// The three rules alone at a nesting distance, nanoseconds.
-pub struct Rules {
-    pub distance: u64,
-    pub display: f64,
-    pub walk: f64,
-    pub scan: f64,
+/// The counts of each row, in the order of the rows.
+pub fn instructions(counts: Option<&[PerSide]>) -> String {
+    let Some(counts) = counts else {
+        return "valgrind is not installed here, so that no instructions were counted.\n".into();
+    };
+    let headings = [
+        "call",
+        "ratio to tuned",
+        "ratio to tuned unchecked",
+        "exported",
+        "tuned",
+        "unchecked",
+        "plain Rust",
+        "plain Rust in line",
+    ];
+    let row = |(row, counts): (&Row, &PerSide)| {
+        [
+            row.name.into(),
+            hundredths(counts.exported / counts.tuned),
+            hundredths(counts.exported / counts.unchecked),
+            whole(counts.exported),
+            whole(counts.tuned),
+            whole(counts.unchecked),
+            whole(counts.plain),
+            whole(counts.in_line),
+        ]
+    };
+    table(
+        &headings.map(String::from),
+        ROWS.iter().zip(counts).map(row),
+    )
 }
 
-pub fn print(figures: &[Figure], checks: &[Check], rules: &[Rules]) {
-    print_figures(figures);
-    println!();
-    print_checks(checks);
-    println!();
-    println!("{}", flatness(checks));
-    println!();
-    print_rules(rules);
+/// Stores by nesting distance, how flat they are, and the rules alone.
+pub fn distances(checks: &[Check], rules: &[Rules]) -> String {
+    [
+        checks_table(checks),
+        flatness(checks) + "\n",
+        rules_table(rules),
+    ]
+    .join("\n")
 }
 
-fn print_figures(figures: &[Figure]) {
-    println!(
-        "| call | ratio | least | most | to reach | ratio to all in line | exported, ns \
-         | plain Rust, ns | all in line, ns |"
-    );
-    println!("|---|---|---|---|---|---|---|---|---|");
-    for figure in figures {
-        let ratio = figure.spread(|run| run.core / run.plain);
-        println!(
-            "| {} | {:.2} | {:.2} | {:.2} | {:.1} | {:.2} | {:.2} | {:.2} | {:.2} |",
-            figure.name,
-            ratio.middle,
-            ratio.least,
-            ratio.most,
-            figure.limit,
-            figure.spread(|run| run.core / run.in_line).middle,
-            figure.spread(|run| run.core).middle,
-            figure.spread(|run| run.plain).middle,
-            figure.spread(|run| run.in_line).middle
-        );
-    }
+fn checks_table(checks: &[Check]) -> String {
+    let headings = [
+        "distance",
+        "exported",
+        "display, plain",
+        "walk of parents",
+        "scan of stack",
+        "exported / display",
+        "walk / display",
+        "scan / display",
+    ];
+    let row = |check: &Check| {
+        [
+            check.distance.to_string(),
+            nanoseconds(check.exported),
+            nanoseconds(check.display),
+            nanoseconds(check.walk),
+            nanoseconds(check.scan),
+            hundredths(check.exported / check.display),
+            hundredths(check.walk / check.display),
+            hundredths(check.scan / check.display),
+        ]
+    };
+    table(&headings.map(String::from), checks.iter().map(row))
 }
 
-fn print_checks(checks: &[Check]) {
-    println!(
-        "| distance | exported | display, plain | walk of parents | scan of stack \
-         | exported / display | walk / display | scan / display |"
-    );
-    println!("|---|---|---|---|---|---|---|---|");
-    for check in checks {
-        println!(
-            "| {} | {:.2} ns | {:.2} ns | {:.2} ns | {:.2} ns | {:.2} | {:.2} | {:.2} |",
-            check.distance,
-            check.core,
-            check.display,
-            check.walk,
-            check.scan,
-            check.core / check.display,
-            check.walk / check.display,
-            check.scan / check.display
-        );
-    }
-}
-
-fn print_rules(rules: &[Rules]) {
-    println!(
-        "| distance, the check alone | display | walk of parents | scan of stack \
-         | walk / display | scan / display |"
-    );
-    println!("|---|---|---|---|---|---|");
-    for rule in rules {
-        println!(
-            "| {} | {:.2} ns | {:.2} ns | {:.2} ns | {:.2} | {:.2} |",
-            rule.distance,
-            rule.display,
-            rule.walk,
-            rule.scan,
-            rule.walk / rule.display,
-            rule.scan / rule.display
-        );
-    }
+fn rules_table(rules: &[Rules]) -> String {
+    let headings = [
+        "distance, the check alone",
+        "display",
+        "walk of parents",
+        "scan of stack",
+        "walk / display",
+        "scan / display",
+    ];
+    let row = |rule: &Rules| {
+        [
+            rule.distance.to_string(),
+            nanoseconds(rule.display),
+            nanoseconds(rule.walk),
+            nanoseconds(rule.scan),
+            hundredths(rule.walk / rule.display),
+            hundredths(rule.scan / rule.display),
+        ]
+    };
+    table(&headings.map(String::from), rules.iter().map(row))
 }
 
 /// How far the exported store's time lies apart over distances 1 to 31.
 fn flatness(checks: &[Check]) -> String {
     let times = checks.iter().filter(|check| check.distance > 0);
-    let Spread { least, most, .. } = Spread::of(times.map(|check| check.core));
+    let Spread { least, most, .. } = Spread::of(times.map(|check| check.exported));
     let percent = (most / least - 1.0) * 100.0;
     format!("From distance 1 to 31 the exported store's times lie within {percent:.1} %.")
+}
+
+fn table<const N: usize>(
+    headings: &[String; N],
+    rows: impl Iterator<Item = [String; N]>,
+) -> String {
+    let line = |cells: &[String]| format!("| {} |\n", cells.join(" | "));
+    let ruler = format!("|{}\n", "---|".repeat(N));
+    let rows: String = rows.map(|cells| line(&cells)).collect();
+    line(headings) + &ruler + &rows
+}
+
+fn hundredths(number: f64) -> String {
+    format!("{number:.2}")
+}
+
+fn nanoseconds(time: f64) -> String {
+    format!("{time:.2} ns")
+}
+
+fn whole(number: f64) -> String {
+    format!("{number:.0}")
+}
+
+fn range(spread: Spread) -> String {
+    format!("{:.2} to {:.2}", spread.least, spread.most)
+}
+
+#[cfg(test)]
+mod tests {
+    use super::*;
+    use crate::figures::tests::row;
+
+    #[test]
+    fn a_table_has_its_headings_a_ruler_and_its_rows() {
+        let rows = [["1", "2"], ["3", "4"]].map(|cells| cells.map(String::from));
+        assert_eq!(
+            table(&["a", "b"].map(String::from), rows.into_iter()),
+            "| a | b |\n|---|---|\n| 1 | 2 |\n| 3 | 4 |\n"
+        );
+    }
+
+    #[test]
+    fn a_row_of_calls_leads_with_the_ratios_that_have_marks() {
+        let mut figure = row("read", &[9.0, 10.0, 10.5], None);
+        figure.runs[1].unchecked = 8.0;
+        figure.runs[1].plain = 20.0;
+        figure.runs[1].in_line = 16.0;
+        let cells = [
+            "read",
+            "1.00",
+            "1.05",
+            "0.90 to 1.05",
+            "0.90 to 1.25",
+            "10.00",
+            "10.00",
+            "10.00",
+            "0.90",
+            "0.90",
+        ];
+        assert_eq!(calls_row(&figure), cells);
+    }
+
+    #[test]
+    fn the_calls_are_told_with_their_verdict() {
+        let figures = [row("read", &[10.0], None), row("view", &[12.0], None)];
+        let text = calls(&figures);
+        assert!(text.contains("\n\nOver the mark 1.0 to tuned: view (1.20).\n"));
+        assert!(text.contains("to a read: view (1.20).\n\nOf every row the times tell"));
+        assert!(text.contains("| exported | 1.20 | 1.20 to 1.20 | 1.1 |\n| tuned | 1.00 | "));
+    }
+
+    #[test]
+    fn counts_stand_behind_their_ratios() {
+        let mut counts = vec![PerSide::from_line(&[1.0; 5]); ROWS.len()];
+        counts[0] = PerSide::from_line(&[105.4, 100.0, 84.0, 164.0, 120.0]);
+        let text = instructions(Some(&counts));
+        let first = format!(
+            "| {} | 1.05 | 1.25 | 105 | 100 | 84 | 164 | 120 |",
+            ROWS[0].name
+        );
+        assert_eq!(text.lines().nth(2), Some(first.as_str()));
+        assert_eq!(text.lines().count(), 2 + ROWS.len());
+    }
+
+    #[test]
+    fn where_none_were_counted_it_says_so() {
+        assert!(instructions(None).starts_with("valgrind is not installed"));
+    }
+
+    fn check(distance: u64, exported: f64) -> Check {
+        Check {
+            distance,
+            exported,
+            display: 10.0,
+            walk: 25.0,
+            scan: 15.0,
+        }
+    }
+
+    #[test]
+    fn the_store_within_a_scope_does_not_count_as_flat_or_not() {
+        let checks = [check(0, 5.0), check(1, 10.0), check(31, 10.5)];
+        assert_eq!(
+            flatness(&checks),
+            "From distance 1 to 31 the exported store's times lie within 5.0 %."
+        );
+    }
+
+    #[test]
+    fn stores_stand_beside_those_by_other_rules() {
+        let text = checks_table(&[check(4, 9.0)]);
+        let row = "| 4 | 9.00 ns | 10.00 ns | 25.00 ns | 15.00 ns | 0.90 | 2.50 | 1.50 |";
+        assert_eq!(text.lines().last(), Some(row));
+    }
 }

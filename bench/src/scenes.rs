@@ -8,8 +8,10 @@ use crate::machine::{Answer, InLine, Machine, SCRATCH};
 const T: u64 = 0;
 const REAL_TIME: u64 = 2;
 const FIRST_SCOPE: u64 = 2;
-/// Objects in each scope, used by turns.
+/// Objects in each scope, used by turns, with their slots and data words.
 const OBJECTS: usize = 8;
+const SLOTS: u64 = 2;
+const DATA_WORDS: u64 = 2;
 /// Allocations between two emptyings of the scope.
 pub const BATCH: u64 = 200;
 
@@ -19,7 +21,7 @@ fn ok(answer: Answer) -> u64 {
     answer.value
 }
 
-/// The thread in scopes 2, 3, .., one in the other, with objects in each: 2 slots, 2 data words.
+/// The thread in scopes 2, 3, .., one in the other, with objects in each.
 pub struct Nest<M> {
     machine: M,
     depth: u64,
@@ -34,7 +36,7 @@ impl<M: Machine> Nest<M> {
         for scope in FIRST_SCOPE..FIRST_SCOPE + depth {
             ok(machine.make(T, scope, 256));
             ok(machine.enter(T, scope));
-            objects.push([(); OBJECTS].map(|()| ok(machine.allocate(T, 2, 2))));
+            objects.push([(); OBJECTS].map(|()| ok(machine.allocate(T, SLOTS, DATA_WORDS))));
         }
         // One scope more, for entries, and the next one to be its child.
         ok(machine.make(T, FIRST_SCOPE + depth, 256));
@@ -95,6 +97,19 @@ impl<M: Machine> Nest<M> {
             black_box(self.machine.read(T, black_box(holders[i % OBJECTS]), 1));
         }
         ok(self.machine.read(T, holders[0], 1));
+    }
+
+    /// Where the data words of the objects lie that `read` reads.
+    pub fn view(&mut self, calls: u64) {
+        let holders = self.innermost();
+        for i in 0..calls as usize {
+            let view = self.machine.view(T, black_box(holders[i % OBJECTS]));
+            // Word by word, as a host reads it: a copy by longer loads would wait for the stores of its words.
+            for word in [view.status, view.store, view.from, view.len] {
+                black_box(word);
+            }
+        }
+        assert_eq!(self.machine.view(T, holders[0]).len, DATA_WORDS);
     }
 
     /// Opens the next scope and leaves it, which empties it.

@@ -1,0 +1,120 @@
+//! The rows and the sides of the first table: which calls are compared, and on which cores.
+
+use crate::machine::{Core, InLine, Machine, Plain, Tuned, Unchecked};
+use crate::measure::Loop;
+use crate::scenes::{Nest, Room};
+
+/// How deep the calls on objects are nested, and how far above their target is.
+const DEPTH: u64 = 8;
+const DISTANCE: u64 = 4;
+
+/// The calls of a row.
+#[derive(Clone, Copy)]
+enum Calls {
+    Store,
+    Load,
+    Read,
+    View,
+    Write,
+    /// A scope that is opened under so many others and left.
+    EnterAndExit(u64),
+    /// An object of no slot and so many data words.
+    Allocate(u64),
+}
+
+#[derive(Clone, Copy)]
+pub struct Row {
+    pub name: &'static str,
+    calls: Calls,
+}
+
+pub const ROWS: [Row; 12] = [
+    row("store", Calls::Store),
+    row("load", Calls::Load),
+    row("read", Calls::Read),
+    row("view", Calls::View),
+    row("write", Calls::Write),
+    row("enter + exit, depth 1", Calls::EnterAndExit(0)),
+    row("enter + exit, depth 8", Calls::EnterAndExit(7)),
+    row("enter + exit, depth 31", Calls::EnterAndExit(30)),
+    row("allocate, 0 data words", Calls::Allocate(0)),
+    row("allocate, 1 data word", Calls::Allocate(1)),
+    row("allocate, 8 data words", Calls::Allocate(8)),
+    row("allocate, 64 data words", Calls::Allocate(64)),
+];
+
+const fn row(name: &'static str, calls: Calls) -> Row {
+    Row { name, calls }
+}
+
+/// A core, by the name that `bench count` knows it by.
+pub struct Side {
+    pub name: &'static str,
+    pub row_loop: fn(Row) -> Loop,
+}
+
+pub const SIDES: [Side; 5] = [
+    side("exported", row_loop::<Core>),
+    side("tuned", row_loop::<Tuned>),
+    side("unchecked", row_loop::<Unchecked>),
+    side("plain", row_loop::<Plain>),
+    side("in_line", row_loop::<InLine>),
+];
+
+const fn side(name: &'static str, row_loop: fn(Row) -> Loop) -> Side {
+    Side { name, row_loop }
+}
+
+/// A number for each side.
+#[derive(Clone, Copy, Debug, PartialEq)]
+pub struct PerSide {
+    pub exported: f64,
+    pub tuned: f64,
+    pub unchecked: f64,
+    pub plain: f64,
+    pub in_line: f64,
+}
+
+impl PerSide {
+    /// From numbers in the order of `SIDES`.
+    pub fn from_line(line: &[f64]) -> PerSide {
+        let &[exported, tuned, unchecked, plain, in_line] = line else {
+            panic!("a line has a number for each side, and not {}", line.len());
+        };
+        PerSide {
+            exported,
+            tuned,
+            unchecked,
+            plain,
+            in_line,
+        }
+    }
+}
+
+/// A line of loops for each row, one on each side.
+pub fn loops() -> Vec<Vec<Loop>> {
+    let on_sides = |&row| SIDES.iter().map(|side| (side.row_loop)(row)).collect();
+    ROWS.iter().map(on_sides).collect()
+}
+
+/// The loop of a row on one side.
+fn row_loop<M: Machine + 'static>(row: Row) -> Loop {
+    match row.calls {
+        Calls::Store => nested::<M>(DEPTH, |nest, calls| nest.store(calls, DISTANCE)),
+        Calls::Load => nested::<M>(DEPTH, |nest, calls| nest.load(calls, DISTANCE)),
+        Calls::Read => nested::<M>(DEPTH, |nest, calls| nest.read(calls)),
+        Calls::View => nested::<M>(DEPTH, |nest, calls| nest.view(calls)),
+        Calls::Write => nested::<M>(DEPTH, |nest, calls| nest.write(calls)),
+        Calls::EnterAndExit(above) => nested::<M>(above, |nest, calls| nest.enter_and_exit(calls)),
+        Calls::Allocate(data_words) => {
+            let mut room = Room::<M>::new();
+            Box::new(move |calls| room.allocate(calls, data_words))
+        }
+    }
+}
+
+/// A loop of calls in a nest of its own.
+fn nested<M: Machine + 'static>(depth: u64, run: fn(&mut Nest<M>, u64)) -> Loop {
+    let mut nest = Nest::<M>::new(depth);
+    Box::new(move |calls| run(&mut nest, calls))
+}

@@ -1,0 +1,47 @@
+//! A word by its place: checked, or unchecked where the state's invariant says that the place is there.
+
+use std::ops::Range;
+
+#[cfg(not(feature = "unchecked"))]
+mod by_place {
+    use super::Range;
+
+    #[inline(always)]
+    pub fn get<T: Copy>(words: &[T], place: usize) -> T {
+        words[place]
+    }
+
+    #[inline(always)]
+    pub fn put<T>(words: &mut [T], place: usize, word: T) {
+        words[place] = word;
+    }
+
+    #[inline(always)]
+    pub fn part<T>(words: &mut [T], places: Range<usize>) -> &mut [T] {
+        &mut words[places]
+    }
+}
+
+// SAFETY, of all three: every area ends within its store, every used word has its bit in the map, and
+// a live object ends within its area's used words. Set-up gives this and every call keeps it.
+#[cfg(feature = "unchecked")]
+mod by_place {
+    use super::Range;
+
+    #[inline(always)]
+    pub fn get<T: Copy>(words: &[T], place: usize) -> T {
+        unsafe { *words.get_unchecked(place) }
+    }
+
+    #[inline(always)]
+    pub fn put<T>(words: &mut [T], place: usize, word: T) {
+        unsafe { *words.get_unchecked_mut(place) = word }
+    }
+
+    #[inline(always)]
+    pub fn part<T>(words: &mut [T], places: Range<usize>) -> &mut [T] {
+        unsafe { words.get_unchecked_mut(places) }
+    }
+}
+
+pub use by_place::{get, part, put};
