@@ -8,12 +8,12 @@ use tables::Words;
 ghost use mathlib.Core.Path.{_≡_};
 ghost use Prim.Native.Nat.{_+_, _*_, _≤_};
 ghost use lib.ListN.{length};
-ghost use Rattle.model.specs.Objects.{objectWords, objectBits, allocateRest};
+ghost use Rattle.model.specs.Objects.{objectWords, objectBits};
 ghost use Rattle.model.specs.Calls as calls;
-ghost use Rattle.tables.specs.Contract.{stateIn, before, Usable, Answers};
+ghost use Rattle.tables.specs.Contract.{stateIn, Usable, Answers};
 ghost use Rattle.objects.specs.Stores.{storeIn, Stores};
 ghost use Rattle.objects.specs.Resolving.{Fitting};
-ghost use Rattle.allocation.specs.Allocation.{MakesObject};
+ghost use Rattle.allocation.specs.Allocation.{areaRest, HasRoom, MakesObject};
 
 // The words of an object of a store: its header, and 0 in its slots and its data.
 fn write_object(store: &mut [u64], at: usize, slots: u64, data_words: u64)
@@ -57,18 +57,12 @@ fn put_object(
     write_object(scratch, at, slots, data_words);
 }
 
-// Refusals 2, 5 and 12. No sum of the fields is taken, so none can wrap.
-fn check_allocate(words: &Words, bytes: &Bytes, t: u64, slots: u64, data_words: u64) -> u64
-    requires { ⌜ Usable words bytes ⌝ }
-    ensures { λ r. ⌜ r ≡ allocateRest (before words bytes) t slots data_words ⌝ }
+// Refusals 5 and 12, by whether the thread may allocate in the area, and by the area's record. No sum of
+// the fields is taken, so none can wrap.
+fn check_area(may: bool, x: Area, slots: u64, data_words: u64) -> u64
+    requires { ⌜ x .used ≤ x .size ⌝ }
+    ensures { λ r. ⌜ r ≡ areaRest may x slots data_words ⌝ }
 {
-    let refusal = callers::check_thread(words, bytes, t);
-    if refusal != 0 {
-        return refusal;
-    }
-    let area = callers::top_entry(words, bytes, t as usize).area;
-    let may = callers::has_right(words, bytes, t as usize, Right::Allocate, area as u64);
-    let x = held_areas::area_at(words, area as usize);
     let room = x.size - x.used;
     if !may {
         return 5;
@@ -82,24 +76,23 @@ fn check_allocate(words: &Words, bytes: &Bytes, t: u64, slots: u64, data_words: 
     0
 }
 
-// The effect of an accepted call: the area's used words, the object's map bits and its words. Yields
-// its handle. The area is written first: after a write to a buffer the compiler could not tell that
-// its other words are as they were read, and would write them too.
+// The effect of an accepted call, in area `area`, whose record is x: its used words, the object's map bits
+// and its words. Yields its handle. The area is written first: after a write to a buffer the compiler
+// could not tell that its other words are as they were read, and would write them too.
 fn apply_allocate(
     words: &mut Words,
     bytes: &Bytes,
     permanent: &mut [u64],
     scratch: &mut [u64],
     map: &mut [u64],
-    t: usize,
+    area: u64,
+    x: Area,
     slots: u64,
     data_words: u64,
 ) -> u64
-    requires { ⌜ Fitting words bytes permanent scratch map × (allocateRest (stateIn words bytes) t slots data_words ≡ 0) ⌝ }
-    ensures { λ r. ⌜ MakesObject r words bytes permanent scratch map t slots data_words ⌝ }
+    requires { ⌜ Fitting words bytes permanent scratch map × HasRoom (stateIn words bytes) area x slots data_words ⌝ }
+    ensures { λ r. ⌜ MakesObject r words bytes permanent scratch map area slots data_words ⌝ }
 {
-    let area = callers::top_entry(words, bytes, t).area as u64;
-    let x = held_areas::area_at(words, area as usize);
     let used = x.used + 1 + slots + data_words;
     let next = Area {
         start: x.start,
@@ -118,7 +111,8 @@ fn apply_allocate(
     handle::pack(x.used, area, x.generation)
 }
 
-// Op 06: slots and data words of the new object; the value is its handle.
+// Op 06: slots and data words of the new object; the value is its handle. The current area is looked up
+// once, and its record is read once, for the checks and for the effect.
 pub fn allocate(
     words: &mut Words,
     bytes: &Bytes,
@@ -132,14 +126,17 @@ pub fn allocate(
     requires { ⌜ Usable words bytes ⌝ }
     ensures { λ r. ⌜ Answers r words bytes permanent scratch map (calls.allocate t slots data_words) ⌝ }
 {
-    let fit = callers::lengths_fit(words, bytes, permanent, scratch, map);
-    if !fit {
+    let refusal = callers::check_caller(words, bytes, permanent, scratch, map, t);
+    if refusal != 0 {
         return Answer {
-            status: 1,
+            status: refusal,
             value: 0,
         };
     }
-    let status = check_allocate(words, bytes, t, slots, data_words);
+    let area = callers::top_entry(words, bytes, t as usize).area as u64;
+    let may = callers::has_right(words, bytes, t as usize, Right::Allocate, area);
+    let x = held_areas::area_at(words, area as usize);
+    let status = check_area(may, x, slots, data_words);
     if status != 0 {
         return Answer { status, value: 0 };
     }
@@ -149,7 +146,8 @@ pub fn allocate(
         permanent,
         scratch,
         map,
-        t as usize,
+        area,
+        x,
         slots,
         data_words,
     );
