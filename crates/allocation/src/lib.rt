@@ -1,4 +1,6 @@
 // Op 06: an object is allocated in the current area of a thread.
+mod zeros; // zeros.rt: a run of zeros
+
 use layout::answer::Answer;
 use layout::handle;
 use model::Area;
@@ -20,22 +22,8 @@ fn write_object(store: &mut [u64], at: usize, slots: u64, data_words: u64)
     requires { ⌜ (at + 1 + slots + data_words ≤ length (now store)) × (at + 1 + slots + data_words ≤ 16384) ⌝ }
     ensures { λ r. ⌜ now (store .exit) ≡ objectWords (now (store .entry)) at slots data_words ⌝ }
 {
-    let n = (slots + data_words) as usize;
-    let mut i = 0;
-    while i < n {
-        store[at + 1 + i] = 0;
-        i += 1;
-    }
+    zeros::zero_words(store, at + 1, (slots + data_words) as usize);
     store[at] = handle::header(slots, data_words);
-}
-
-// Its map bits: 1 for the header, 0 for the n words after it.
-fn mark_object(map: &mut [u64], bit: usize, n: usize)
-    requires { ⌜ (bit + 1 + n ≤ 64 * length (now map)) × (bit + 1 + n ≤ 32768) ⌝ }
-    ensures { λ r. ⌜ now (map .exit) ≡ objectBits (now (map .entry)) bit n ⌝ }
-{
-    bitmap::clear_bits(map, bit + 1, n);
-    bitmap::set_bit(map, bit);
 }
 
 // The words of an object in the store that has an area's words.
@@ -55,6 +43,15 @@ fn put_object(
         return;
     }
     write_object(scratch, at, slots, data_words);
+}
+
+// The map bits of an object: 1 for the header, 0 for the n words after it.
+fn mark_object(map: &mut [u64], bit: usize, n: usize)
+    requires { ⌜ (bit + 1 + n ≤ 64 * length (now map)) × (bit + 1 + n ≤ 32768) ⌝ }
+    ensures { λ r. ⌜ now (map .exit) ≡ objectBits (now (map .entry)) bit n ⌝ }
+{
+    bitmap::clear_bits(map, bit + 1, n);
+    bitmap::set_bit(map, bit);
 }
 
 // Refusals 5 and 12, by whether the thread may allocate in the area, and by the area's record. No sum of
@@ -126,19 +123,19 @@ pub fn allocate(
     requires { ⌜ Usable words bytes ⌝ }
     ensures { λ r. ⌜ Answers r words bytes permanent scratch map (calls.allocate t slots data_words) ⌝ }
 {
-    let refusal = callers::check_caller(words, bytes, permanent, scratch, map, t);
+    let status = callers::check_caller(words, bytes, permanent, scratch, map, t);
+    if status != 0 {
+        return Answer { status, value: 0 };
+    }
+    let area = callers::top_entry(words, bytes, t as usize).area as u64;
+    let may = callers::has_right(words, bytes, t as usize, Right::Allocate, area);
+    let x = held_areas::area_at(words, area as usize);
+    let refusal = check_area(may, x, slots, data_words);
     if refusal != 0 {
         return Answer {
             status: refusal,
             value: 0,
         };
-    }
-    let area = callers::top_entry(words, bytes, t as usize).area as u64;
-    let may = callers::has_right(words, bytes, t as usize, Right::Allocate, area);
-    let x = held_areas::area_at(words, area as usize);
-    let status = check_area(may, x, slots, data_words);
-    if status != 0 {
-        return Answer { status, value: 0 };
     }
     let made = apply_allocate(
         words,
