@@ -1,4 +1,6 @@
 // Op 06: an object is allocated in the current area of a thread.
+mod zeros; // zeros.rt: a run of zeros
+
 use layout::answer::Answer;
 use layout::handle;
 use model::Area;
@@ -8,34 +10,20 @@ use tables::Words;
 ghost use mathlib.Core.Path.{_≡_};
 ghost use Prim.Native.Nat.{_+_, _*_, _≤_};
 ghost use lib.ListN.{length};
-ghost use Rattle.model.specs.Objects.{objectWords, objectBits, allocateRest};
+ghost use Rattle.model.specs.Objects.{objectWords, objectBits};
 ghost use Rattle.model.specs.Calls as calls;
-ghost use Rattle.tables.specs.Contract.{stateIn, before, Usable, Answers};
+ghost use Rattle.tables.specs.Contract.{stateIn, Usable, Answers};
 ghost use Rattle.objects.specs.Stores.{storeIn, Stores};
 ghost use Rattle.objects.specs.Resolving.{Fitting};
-ghost use Rattle.allocation.specs.Allocation.{MakesObject};
+ghost use Rattle.allocation.specs.Allocation.{areaRest, HasRoom, MakesObject};
 
 // The words of an object of a store: its header, and 0 in its slots and its data.
 fn write_object(store: &mut [u64], at: usize, slots: u64, data_words: u64)
     requires { ⌜ (at + 1 + slots + data_words ≤ length (now store)) × (at + 1 + slots + data_words ≤ 16384) ⌝ }
     ensures { λ r. ⌜ now (store .exit) ≡ objectWords (now (store .entry)) at slots data_words ⌝ }
 {
-    let n = (slots + data_words) as usize;
-    let mut i = 0;
-    while i < n {
-        store[at + 1 + i] = 0;
-        i += 1;
-    }
+    zeros::zero_words(store, at + 1, (slots + data_words) as usize);
     store[at] = handle::header(slots, data_words);
-}
-
-// Its map bits: 1 for the header, 0 for the n words after it.
-fn mark_object(map: &mut [u64], bit: usize, n: usize)
-    requires { ⌜ (bit + 1 + n ≤ 64 * length (now map)) × (bit + 1 + n ≤ 32768) ⌝ }
-    ensures { λ r. ⌜ now (map .exit) ≡ objectBits (now (map .entry)) bit n ⌝ }
-{
-    bitmap::clear_bits(map, bit + 1, n);
-    bitmap::set_bit(map, bit);
 }
 
 // The words of an object in the store that has an area's words.
@@ -57,18 +45,21 @@ fn put_object(
     write_object(scratch, at, slots, data_words);
 }
 
-// Refusals 2, 5 and 12. No sum of the fields is taken, so none can wrap.
-fn check_allocate(words: &Words, bytes: &Bytes, t: u64, slots: u64, data_words: u64) -> u64
-    requires { ⌜ Usable words bytes ⌝ }
-    ensures { λ r. ⌜ r ≡ allocateRest (before words bytes) t slots data_words ⌝ }
+// The map bits of an object: 1 for the header, 0 for the n words after it.
+fn mark_object(map: &mut [u64], bit: usize, n: usize)
+    requires { ⌜ (bit + 1 + n ≤ 64 * length (now map)) × (bit + 1 + n ≤ 32768) ⌝ }
+    ensures { λ r. ⌜ now (map .exit) ≡ objectBits (now (map .entry)) bit n ⌝ }
 {
-    let refusal = callers::check_thread(words, bytes, t);
-    if refusal != 0 {
-        return refusal;
-    }
-    let area = callers::top_entry(words, bytes, t as usize).area;
-    let may = callers::has_right(words, bytes, t as usize, Right::Allocate, area as u64);
-    let x = held_areas::area_at(words, area as usize);
+    bitmap::clear_bits(map, bit + 1, n);
+    bitmap::set_bit(map, bit);
+}
+
+// Refusals 5 and 12, by whether the thread may allocate in the area, and by the area's record. No sum of
+// the fields is taken, so none can wrap.
+fn check_area(may: bool, x: Area, slots: u64, data_words: u64) -> u64
+    requires { ⌜ x .used ≤ x .size ⌝ }
+    ensures { λ r. ⌜ r ≡ areaRest may x slots data_words ⌝ }
+{
     let room = x.size - x.used;
     if !may {
         return 5;
@@ -82,24 +73,23 @@ fn check_allocate(words: &Words, bytes: &Bytes, t: u64, slots: u64, data_words: 
     0
 }
 
-// The effect of an accepted call: the area's used words, the object's map bits and its words. Yields
-// its handle. The area is written first: after a write to a buffer the compiler could not tell that
-// its other words are as they were read, and would write them too.
+// The effect of an accepted call, in area `area`, whose record is x: its used words, the object's map bits
+// and its words. Yields its handle. The area is written first: after a write to a buffer the compiler
+// could not tell that its other words are as they were read, and would write them too.
 fn apply_allocate(
     words: &mut Words,
     bytes: &Bytes,
     permanent: &mut [u64],
     scratch: &mut [u64],
     map: &mut [u64],
-    t: usize,
+    area: u64,
+    x: Area,
     slots: u64,
     data_words: u64,
 ) -> u64
-    requires { ⌜ Fitting words bytes permanent scratch map × (allocateRest (stateIn words bytes) t slots data_words ≡ 0) ⌝ }
-    ensures { λ r. ⌜ MakesObject r words bytes permanent scratch map t slots data_words ⌝ }
+    requires { ⌜ Fitting words bytes permanent scratch map × HasRoom (stateIn words bytes) area x slots data_words ⌝ }
+    ensures { λ r. ⌜ MakesObject r words bytes permanent scratch map area slots data_words ⌝ }
 {
-    let area = callers::top_entry(words, bytes, t).area as u64;
-    let x = held_areas::area_at(words, area as usize);
     let used = x.used + 1 + slots + data_words;
     let next = Area {
         start: x.start,
@@ -118,7 +108,8 @@ fn apply_allocate(
     handle::pack(x.used, area, x.generation)
 }
 
-// Op 06: slots and data words of the new object; the value is its handle.
+// Op 06: slots and data words of the new object; the value is its handle. The current area is looked up
+// once, and its record is read once, for the checks and for the effect.
 pub fn allocate(
     words: &mut Words,
     bytes: &Bytes,
@@ -132,16 +123,19 @@ pub fn allocate(
     requires { ⌜ Usable words bytes ⌝ }
     ensures { λ r. ⌜ Answers r words bytes permanent scratch map (calls.allocate t slots data_words) ⌝ }
 {
-    let fit = callers::lengths_fit(words, bytes, permanent, scratch, map);
-    if !fit {
-        return Answer {
-            status: 1,
-            value: 0,
-        };
-    }
-    let status = check_allocate(words, bytes, t, slots, data_words);
+    let status = callers::check_caller(words, bytes, permanent, scratch, map, t);
     if status != 0 {
         return Answer { status, value: 0 };
+    }
+    let area = callers::top_entry(words, bytes, t as usize).area as u64;
+    let may = callers::has_right(words, bytes, t as usize, Right::Allocate, area);
+    let x = held_areas::area_at(words, area as usize);
+    let refusal = check_area(may, x, slots, data_words);
+    if refusal != 0 {
+        return Answer {
+            status: refusal,
+            value: 0,
+        };
     }
     let made = apply_allocate(
         words,
@@ -149,7 +143,8 @@ pub fn allocate(
         permanent,
         scratch,
         map,
-        t as usize,
+        area,
+        x,
         slots,
         data_words,
     );
