@@ -1,6 +1,6 @@
 -- Refusals 1 and 2: one law for each way that the checks end, and how a call goes on after them.
 -- Assumes nothing.
-use mathlib.Core.Path.{_≡_, refl, sym, _∙_}
+use mathlib.Core.Path.{_≡_, refl, ap, sym, _∙_}
 use mathlib.Core.Bool.{Bool, true, false, not}
 use mathlib.Core.Logic.{_≢_}
 use mathlib.Core.List.{List}
@@ -18,7 +18,7 @@ use Rattle.model.proofs.Outcomes.{unfit-fitted, fit-fitted}
 use Rattle.tables.specs.Decode.{stateOf, lengthsRecord}
 use Rattle.tables.specs.Laws.{lengths-read}
 
--- ---- the three lengths, where o are those of set-up
+-- ---- the three lengths, where o, n and k are those of set-up, read for each test
 
 module _ (w b : List ℕ) (m : Memory) (o : Lengths) (e : o ≡ lengthsRecord w) where
   own : stateOf w b .lengths ≡ o
@@ -28,14 +28,19 @@ module _ (w b : List ℕ) (m : Memory) (o : Lengths) (e : o ≡ lengthsRecord w)
   unfolding fits
   other-permanent h = rw (own, ne-eqb (length (m .permanent)) (o .permanent) h)
 
-  module _ (p : length (m .permanent) ≡ o .permanent) where
-    pub other-scratch : length (m .scratch) ≢ o .scratch → false ≡ fits (stateOf w b) m
-    unfolding fits
-    other-scratch h = rw (own, eq-eqb (length (m .permanent)) (o .permanent) p, ne-eqb (length (m .scratch)) (o .scratch) h)
+  module _ (p : length (m .permanent) ≡ o .permanent) (n : Lengths) (f : n ≡ lengthsRecord w) where
+    same : n .scratch ≡ o .scratch
+    same = ap (λ (l : Lengths). l .scratch) (f ∙ sym e)
 
-    pub by-map : length (m .scratch) ≡ o .scratch → eqb (length (m .map)) (o .map) ≡ fits (stateOf w b) m
+    pub other-scratch : length (m .scratch) ≢ n .scratch → false ≡ fits (stateOf w b) m
     unfolding fits
-    by-map h = rw (own, eq-eqb (length (m .permanent)) (o .permanent) p, eq-eqb (length (m .scratch)) (o .scratch) h)
+    other-scratch h = rw (own, eq-eqb (length (m .permanent)) (o .permanent) p, ne-eqb (length (m .scratch)) (o .scratch) (λ z. h (z ∙ sym same)))
+
+    pub by-map : (k : Lengths) → k ≡ lengthsRecord w → length (m .scratch) ≡ n .scratch → eqb (length (m .map)) (k .map) ≡ fits (stateOf w b) m
+    unfolding fits
+    by-map k g h =
+        ap (λ (l : Lengths). eqb (length (m .map)) (l .map)) (g ∙ sym e)
+        ∙ rw (own, eq-eqb (length (m .permanent)) (o .permanent) p, eq-eqb (length (m .scratch)) (o .scratch) (h ∙ same)) refl
 
 -- r is what lengths_fit answers
 module _ (s : State) (m : Memory) {r : Bool} (e : r ≡ fits s m) where

@@ -5,7 +5,8 @@ ghost use mathlib.Core.Path.{_≡_};
 ghost use Rattle.model.specs.Checks.{fits, called, admit};
 ghost use Rattle.tables.specs.Contract.{before, supplied};
 
-// Whether the lent buffers have the lengths of set-up.
+// Whether the lent buffers have the lengths of set-up. Each is read for its own test: read at once, two of the
+// tests would be made one, and the calls would save a register more.
 pub fn lengths_fit(
     words: &Words,
     bytes: &Bytes,
@@ -15,14 +16,13 @@ pub fn lengths_fit(
 ) -> bool
     ensures { λ r. ⌜ r ≡ fits (before words bytes) (supplied permanent scratch map) ⌝ }
 {
-    let own = held_lengths::lengths_at(words);
-    if permanent.len() as u64 != own.permanent {
+    if permanent.len() as u64 != held_lengths::lengths_at(words).permanent {
         return false;
     }
-    if scratch.len() as u64 != own.scratch {
+    if scratch.len() as u64 != held_lengths::lengths_at(words).scratch {
         return false;
     }
-    map.len() as u64 == own.map
+    map.len() as u64 == held_lengths::lengths_at(words).map
 }
 
 // Refusal 2, for every call but op 01, whose thread is not started yet.

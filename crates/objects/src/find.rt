@@ -41,7 +41,8 @@ fn whole(header: u64, area: u64, at: usize, offset: u64, used: u64) -> Found
     })
 }
 
-// The object that a handle leads to. A scope that is not open has no used words.
+// The object that a handle leads to. A scope that is not open has no used words. These are read after the generation is
+// tested: read with it, they would take a register that has to be saved.
 pub fn lookup(
     words: &Words,
     bytes: &Bytes,
@@ -60,7 +61,8 @@ pub fn lookup(
     if handle::generation(handle) != x.generation {
         return Found::Nothing;
     }
-    if x.used <= offset {
+    let used = held_areas::area_at(words, area as usize).used;
+    if used <= offset {
         return Found::Nothing;
     }
     let at = (x.start + offset) as usize;
@@ -68,5 +70,5 @@ pub fn lookup(
         return Found::Nothing;
     }
     let header = store::word_at(permanent, scratch, area, at);
-    whole(header, area, at, offset, x.used)
+    whole(header, area, at, offset, used)
 }

@@ -1,25 +1,44 @@
 -- `callers::caller::lengths_fit` meets its contract. Assumes nothing.
 use denote.Ref.{now}
 use borrow.Author.Needs.{needs}
+use Rattle.model.specs.State.{Memory}
 use Rattle.tables.specs.Contract.{memoryOf}
 use Rattle.callers.specs.Caller.{other-permanent, other-scratch, by-map}
 use Rattle.callers.proofs.caller.lengths_fit.Statement.{statement}
 use Rattle.callers.proofs.caller.lengths_fit.Tie as tie
 
+-- the first of the lengths is read
+abbrev start : tie.After-struct-known → tie.Start
+start c = c .before .before .before .before .before
+
+abbrev memory : tie.After-struct-known → Memory
+memory c = let a = start c .args in memoryOf (now (a .permanent)) (now (a .scratch)) (now (a .map))
+
 returns : tie.Need-returns
 returns c =
-    let a = c .before .before .before .before .before .before .args in
-    other-permanent (now (a .words)) (now (a .bytes)) (memoryOf (now (a .permanent)) (now (a .scratch)) (now (a .map))) _ (c .before .before .lengths-at .ensures) (search needs)
+    let f = c .before in
+    let a = start f .args in
+    other-permanent (now (a .words)) (now (a .bytes)) (memory f) _ (f .before .lengths-at .ensures) (search needs)
 
 returns-2 : tie.Need-returns-2
 returns-2 c =
-    let a = c .before .before .before .before .before .before .before .before .args in
-    other-scratch (now (a .words)) (now (a .bytes)) (memoryOf (now (a .permanent)) (now (a .scratch)) (now (a .map))) _ (c .before .before .before .before .lengths-at .ensures) (search needs) (search needs)
+    let g = c .before .before .before in
+    let f = g .before in
+    let a = start f .args in
+    other-scratch (now (a .words)) (now (a .bytes)) (memory f) _ (f .before .lengths-at .ensures) (g .if1 .left) _ (c .before .before .lengths-at2 .ensures) (search needs)
 
 returns-3 : tie.Need-returns-3
 returns-3 c =
-    let a = c .before .before .before .before .before .before .before .before .before .args in
-    by-map (now (a .words)) (now (a .bytes)) (memoryOf (now (a .permanent)) (now (a .scratch)) (now (a .map))) _ (c .before .before .before .before .before .lengths-at .ensures) (search needs) (search needs)
+    let h = c .before .before in
+    let g = h .before .before .before in
+    let f = g .before in
+    let a = start f .args in
+    by-map (now (a .words)) (now (a .bytes)) (memory f) _ (f .before .lengths-at .ensures) (g .if1 .left) _ (h .before .before .lengths-at2 .ensures) _ (c .before .lengths-at3 .ensures) (search needs)
 
 pub lengths-fit-spec : {M : Type 1} → statement M
-lengths-fit-spec = tie.close (tie.spec (λ c κs. search needs) returns returns-2 returns-3)
+lengths-fit-spec =
+    tie.close
+    (tie.spec
+    (λ c κs. search needs) returns
+    (λ c κs. search needs) returns-2
+    (λ c κs. search needs) returns-3)

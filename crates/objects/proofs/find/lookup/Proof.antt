@@ -1,10 +1,11 @@
 -- `lookup` meets its contract: one law for each way that it ends.
-use mathlib.Core.Path.{sym, _∙_}
-use Prim.Native.Nat.{_<_}
+use mathlib.Core.Path.{_≡_, ap, subst, sym, _∙_}
+use Prim.Native.Nat.{ℕ, _<_, _≤_}
 use native.Mathlib.Omega.{arith}
 use borrow.Author.Needs.{needs}
 use denote.Ref.{now}
 use Rattle.layout.specs.HandleLaws.{area-lt}
+use Rattle.model.specs.declared.Area.{Area}
 use Rattle.model.specs.State.{State, Memory}
 use Rattle.tables.specs.Laws.{area-read}
 use Rattle.tables.specs.Contract.{stateIn, memoryIn}
@@ -38,6 +39,13 @@ read c = record {
   record-is = c .area-at .ensures ∙ sym (area-read (now (start c .args .words)) (now (start c .args .bytes)) (c .before .before .area .result) (low (c .before)));
 }
 
+-- the used words are read once more, and are the same
+used-is : (c : tie.After-area-at2) → c .area-at2 .result .used ≡ c .before .before .before .before .area-at .result .used
+used-is c = ap (λ (x : Area). x .used) (c .area-at2 .ensures ∙ sym (c .before .before .before .before .area-at .ensures))
+
+within : (c : tie.Else2) → c .before .before .before .before .before .before .offset .result < c .before .before .before .before .before .area-at .result .used
+within c = subst (λ (n : ℕ). c .before .before .before .before .before .before .offset .result < n) (used-is (c .before)) (c .if2 .left)
+
 returns : tie.Need-returns
 returns c =
     let d = c .before .before .before in
@@ -46,26 +54,26 @@ returns c =
 returns-2 : tie.Need-returns-2
 returns-2 c =
     let d = c .before .before .before .before .before in
-    refused-as (state d) (memory d) (start d .args .handle) (start d .pre .0 .good) (past-used _ _ _ _ _ _ _ (read d) (c .if2 .taken))
+    refused-as (state d) (memory d) (start d .args .handle) (start d .pre .0 .good) (past-used _ _ _ _ _ _ _ (read d) (subst (λ (n : ℕ). n ≤ d .before .offset .result) (used-is (c .before)) (c .if2 .taken)))
 
 add-at : tie.Need-add-at
-add-at c = omega (arith, word-low _ _ _ _ _ _ _ (read (c .before .before .before .before .before .before)) (c .before .if2 .left))
+add-at c = omega (arith, word-low _ _ _ _ _ _ _ (read (c .before .before .before .before .before .before)) (within (c .before)))
 
 bit-index-requires : tie.Need-bit-index-requires
-bit-index-requires c κs = bit-low _ _ _ _ _ _ _ (read (c .before .before .before .before .before .before)) (c .before .if2 .left)
+bit-index-requires c κs = bit-low _ _ _ _ _ _ _ (read (c .before .before .before .before .before .before)) (within (c .before))
 
 bit-requires : tie.Need-bit-requires
-bit-requires c κs = bit-in _ _ _ _ _ _ _ (read (c .before .before .before .before .before .before .before)) (c .before .before .if2 .left) _ (c .bit-index .ensures)
+bit-requires c κs = bit-in _ _ _ _ _ _ _ (read (c .before .before .before .before .before .before .before)) (within (c .before .before)) _ (c .bit-index .ensures)
 
 returns-3 : tie.Need-returns-3
 returns-3 c =
     let d = c .before .before .before .before .before .before .before .before .before in
     refused-as (state d) (memory d) (start d .args .handle) (start d .pre .0 .good)
-    (no-bit _ _ _ _ _ _ _ (read d) (c .before .before .before .before .if2 .left) _ (c .before .before .bit-index .ensures)
+    (no-bit _ _ _ _ _ _ _ (read d) (within (c .before .before .before .before)) _ (c .before .before .bit-index .ensures)
     (sym (c .before .bit .ensures) ∙ c .if3 .taken))
 
 word-at-requires : tie.Need-word-at-requires
-word-at-requires c κs = word-in _ _ _ _ _ _ _ (read (c .before .before .before .before .before .before .before .before .before)) (c .before .before .before .before .if2 .left)
+word-at-requires c κs = word-in _ _ _ _ _ _ _ (read (c .before .before .before .before .before .before .before .before .before)) (within (c .before .before .before .before))
 
 whole-requires : tie.Need-whole-requires
 whole-requires c κs = offset-low _ _ _ _ _ _ _ (read (c .before .before .before .before .before .before .before .before .before .before))
@@ -76,8 +84,8 @@ returns-4 c =
     let r = read d in
     refused-as (state d) (memory d) (start d .args .handle) (start d .pre .0 .good)
     (c .whole .ensures
-    ∙ rw (c .before .word-at .ensures)
-    (ends _ _ _ _ _ _ _ r (c .before .before .before .before .before .before .if2 .left) _ (c .before .before .before .before .bit-index .ensures)
+    ∙ rw (c .before .word-at .ensures, used-is (c .before .before .before .before .before .before .before))
+    (ends _ _ _ _ _ _ _ r (within (c .before .before .before .before .before .before)) _ (c .before .before .before .before .bit-index .ensures)
     (sym (c .before .before .before .before .before .before .before .before .before .before .generation .ensures) ∙ c .before .before .before .before .before .before .before .before .if1 .left)
     (λ z. c .before .before .if3 .left (c .before .before .before .bit .ensures ∙ z))))
 
@@ -86,6 +94,8 @@ lookup-spec =
     tie.close
     (tie.spec
     (λ c κs. search needs) (λ c κs. search needs) area-at-requires (λ c κs. search needs)
-    returns returns-2
+    returns
+    (λ c κs. low (c .before .before .before .before))
+    returns-2
     add-at bit-index-requires bit-requires returns-3
     word-at-requires whole-requires returns-4)
