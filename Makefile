@@ -3,7 +3,7 @@
 .PHONY: run explain assemble picture rights test prove lib install compare tools hosts soak bench figures instructions format clean help
 
 # Proves and builds the program, runs it on the specification's example, or on a list (make run LIST=file), and shows each line with its answer,
-# and both in words.
+# and both in words. A line on standard error tells each crate that had to be proved first, here and below.
 run:
 	@scripts/run $${LIST:+"$$LIST"}
 
@@ -52,9 +52,9 @@ tools:
 hosts:
 	@scripts/hosts
 
-# The program's comparison on fresh lists for as long as one likes: make soak SECONDS=600
+# The program's comparison on fresh lists for as long as one likes: make soak SECONDS=600; a minute where no number is named.
 soak:
-	@scripts/soak $(SECONDS)
+	@scripts/soak '$(SECONDS)'
 
 # Measures speed, as ratios: the exported functions beside tuned and plain Rust, the program beside the second implementation. Writes
 # target/BENCHMARKS.md and target/reference-check.svg.

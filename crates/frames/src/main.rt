@@ -9,8 +9,8 @@
 //
 // What is not proved, and has to be read: the bodies of the two functions that call the system, as is
 // said in `rounds`; and that no function here changes `steps` or the input, but by the calls of
-// `rounds`. None can call the system by itself, since this crate names neither `io` nor `libc`
-// (docs/DECISIONS.md, 51).
+// `rounds`. None can call the system by itself, since this crate names none of `io`, `libc` and
+// `os` (docs/DECISIONS.md, 51).
 use rounds::Output;
 use tables::Bytes;
 use tables::Words;
@@ -141,7 +141,8 @@ fn start_map() -> [u64; 96]
     [0; 96]
 }
 
-fn main() {
+// The whole run, over buffers of its own.
+fn run() {
     let mut permanent = permanent_store();
     let mut scratch = scratch_store();
     let mut map = start_map();
@@ -159,4 +160,10 @@ fn main() {
         &mut input,
         &mut output,
     );
+}
+
+fn main() {
+    if !rounds::refuses_arguments() {
+        run();
+    }
 }

@@ -7,7 +7,7 @@
 //
 // What is not proved, and has to be read: the bodies of the two functions that call the system,
 // `read_more` and `write_digits`, since no contract says which bytes `read` gave and `write` took;
-// and in `main`, that the input to answer is all that was read.
+// and in `run`, that the input to answer is all that was read.
 use libc::STDERR_FILENO;
 use libc::STDIN_FILENO;
 use libc::STDOUT_FILENO;
@@ -73,9 +73,28 @@ fn answer(input: &[u8]) {
     write_digits(&all[..len], input);
 }
 
+// Whether the program was given arguments, which it refuses on standard error. The first of those that
+// the system counts is its own name.
+fn refuses_arguments() -> bool {
+    if os::arg_count() <= 1 {
+        return false;
+    }
+    io::write_all(
+        STDERR_FILENO,
+        b"rights_table: it takes no arguments; the lines of a table are read from standard input (README.md, Rights)\n",
+    );
+    true
+}
+
 // A source has 12 bytes at most, so 13 show that an input is longer.
-fn main() {
+fn run() {
     let mut input = [0u8; 13];
     let n = read_input(&mut input);
     answer(&input[..n]);
+}
+
+fn main() {
+    if !refuses_arguments() {
+        run();
+    }
 }

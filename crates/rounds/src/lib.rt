@@ -8,8 +8,9 @@
 //
 // What is not proved, and has to be read: the bodies of the two functions that call the system,
 // `read_chunk` and `write_answers`, beyond their numbers of bytes and steps, since no contract says
-// which bytes `read` gave and `write` took; and that no other function calls `io` or `libc`, or
-// changes `steps` (docs/DECISIONS.md, 51). None but `read_chunk` can change the input, by its type.
+// which bytes `read` gave and `write` took; and that no other function calls `io`, `libc` or `os`, or
+// changes `steps` (docs/DECISIONS.md, 51), but `refuses_arguments`, which is called before anything is
+// read. None but `read_chunk` can change the input, by its type.
 use libc::STDERR_FILENO;
 use libc::STDIN_FILENO;
 use libc::STDOUT_FILENO;
@@ -28,6 +29,19 @@ ghost use Rattle.rounds.specs.Steps.{Read, Wrote};
 // Room for the answers to a chunk. No other buffer has this type, here or in `frames`, so what is
 // written is the start of this one.
 pub type Output = [u8; 311296];
+
+// Whether the program was given arguments, which it refuses on standard error. The first of those that
+// the system counts is its own name.
+pub fn refuses_arguments() -> bool {
+    if os::arg_count() <= 1 {
+        return false;
+    }
+    io::write_all(
+        STDERR_FILENO,
+        b"frames: it takes no arguments; frames are read from standard input (README.md, Frames)\n",
+    );
+    true
+}
 
 // One read: how many bytes it put at the start of the input. It takes a step for each and one more.
 // If it fails, standard error says so, and one step is left, for the write of no answers.

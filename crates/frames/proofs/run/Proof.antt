@@ -1,9 +1,9 @@
--- `main` meets what `answer_all` asks: set-up on buffers of zeros gives the first world, and the buffers are long enough.
+-- `run` meets what `answer_all` asks: set-up on buffers of zeros gives the first world, and the buffers are long enough.
 use native.Mathlib.Omega.{arith}
 use Rattle.reader.specs.HeldLaws.{first-represents}
 use borrow.Author.Needs.{needs}
-use Rattle.frames.proofs.main.Statement.{statement}
-use Rattle.frames.proofs.main.Tie as tie
+use Rattle.frames.proofs.run.Statement.{statement}
+use Rattle.frames.proofs.run.Tie as tie
 
 answer-all-requires : tie.Need-answer-all-requires
 answer-all-requires c κs =
@@ -15,8 +15,8 @@ answer-all-requires c κs =
       first-represents _ _ _ _ _ _ (m .before .before .permanent-store .ensures) (m .before .scratch-store .ensures) (m .start-map .ensures) (s .set-up .ensures),
     )
 
-pub main-spec : {M : Type 1} → statement M
-main-spec =
+pub run-spec : {M : Type 1} → statement M
+run-spec =
     tie.close
     (tie.spec
     (λ c κs. search needs) (λ c κs. search needs) (λ c κs. search needs) (λ c. search needs) (λ c. search needs) (λ c. search needs)
