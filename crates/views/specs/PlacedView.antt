@@ -13,6 +13,8 @@ use Rattle.model.specs.Checks.{headerAt}
 use Rattle.model.specs.References.{placeAfter}
 use Rattle.model.specs.Data.{dataIndex, viewRefusal}
 use Rattle.model.specs.Calls.{view, viewStatus}
+use Rattle.objects.specs.declared.check.Checked.{Checked}
+use Rattle.objects.specs.declared.check.Checked.the-variants.{Passed, Refused}
 use Rattle.tables.specs.Contract.{Borrowed, supplied, plain, viewReply, Replies}
 use Rattle.views.specs.declared.ViewPlace.{ViewPlace}
 
@@ -37,6 +39,16 @@ viewPlaceOf s m t p = record {
   from = viewFrom s m t p;
   len = viewLength s m t p;
 }
+
+-- the place of what a check answers, in a store
+abbrev pub placedIn : Checked → ℕ → ViewPlace
+placedIn (Passed o) k = record { status = 0; store = k; from = o .at + 1 + o .slots; len = o .data_words }
+placedIn (Refused n) k = record { status = n; store = 0; from = 0; len = 0 }
+
+-- where the data words of what it answers begin
+abbrev pub dataStart : Checked → ℕ
+dataStart (Passed o) = o .at + 1 + o .slots
+dataStart (Refused n) = 0
 
 -- a part that begins there, from where the two stores begin: in "the permanent or scratch store itself", 8 bytes to a word
 pub record PlacedAt (slice permanent scratch : ℕ × ℕ) (s : State) (m : Memory) (t p : ℕ) : Type 0 where

@@ -1,6 +1,6 @@
 -- Laws of the shown part.
 -- Assumes nothing.
-use Prim.Native.Nat.{ℕ, _+_, _-_, _*_, _≤_}
+use Prim.Native.Nat.{ℕ, _+_, _-_, _*_, _≤_, _<_}
 use mathlib.Core.Bool.{Bool, true, false}
 use mathlib.Core.List.{List}
 use mathlib.Core.Path.{_≡_, refl, sym, ap, _∙_}
@@ -23,7 +23,10 @@ use Rattle.objects.specs.Places.{Lies}
 use Rattle.views.specs.declared.ViewPlace.{ViewPlace}
 use Rattle.objects.specs.Statuses.{area-is, data-words-is}
 use Rattle.objects.specs.Effects.{place-is, index-is, object-lies}
-use Rattle.views.specs.PlacedView.{viewStore, viewFrom, viewLength, viewPlaceOf, PlacedAt, wordsThere}
+use Rattle.objects.specs.declared.check.Checked.{Checked}
+use Rattle.objects.specs.declared.check.Checked.the-variants.{Passed, Refused}
+use Rattle.objects.specs.Checked.{checkedOf, checked-passed, checked-refused}
+use Rattle.views.specs.PlacedView.{dataStart, placedIn, viewStore, viewFrom, viewLength, viewPlaceOf, PlacedAt, wordsThere}
 
 module _ (s : State) (m : Memory) (t p : ℕ) where
   -- ---- what is shown, by numbers: of a refused call
@@ -47,6 +50,17 @@ module _ (s : State) (m : Memory) (t p : ℕ) where
     object-in g =
         let a = admitted s m t _ z in
         object-lies s m p o e g (a .0 .supplied) t (use-ok s m t p 0 (a .1) .0)
+
+  -- of what a check answers, in the store that has the words of the handle's area
+  pub view-placed : (c : Checked) (k : ℕ) → c ≡ checkedOf (objectOf s m p) (viewRefusal s m t p) → k ≡ pick (isScope (areaOf p)) 1 0 → placedIn c k ≡ viewPlaceOf s m t p
+  view-placed (Passed o) k e f =
+      let u = checked-passed (objectOf s m p) e in
+      rw (f, ← area-is s m p o (u .1)) (place-accepted (u .0) o (u .1))
+  view-placed (Refused n) k e f = let u = checked-refused (objectOf s m p) e in place-refused (u .0) (u .1)
+
+  pub start-low : (c : Checked) → c ≡ checkedOf (objectOf s m p) (viewRefusal s m t p) → Good s → dataStart c < 65536
+  start-low (Passed o) e g = let u = checked-passed (objectOf s m p) e in omega (arith, object-in (u .0) o (u .1) g .low)
+  start-low (Refused n) e g = omega arith
 
   -- ---- the words there; store 0 is the permanent one, any other the scratch
 

@@ -1,17 +1,17 @@
 // An object's data shown as a part of the permanent or scratch store itself, and the call beside it
 // that yields the status.
 use layout::answer::Answer;
+use layout::handle;
 use objects::Checked;
 use tables::Bytes;
 use tables::Words;
 ghost use mathlib.Core.Path.{_≡_};
-ghost use Rattle.layout.specs.Choice.{pick};
-ghost use Rattle.model.specs.State.{isScope};
+ghost use Prim.Native.Nat.{_<_};
 ghost use Rattle.model.specs.Data.{viewRefusal};
 ghost use Rattle.model.specs.Calls as calls;
 ghost use Rattle.tables.specs.Contract.{before, supplied, Usable, viewReply, Replies, Answers};
 ghost use Rattle.objects.specs.Resolving.{Checks};
-ghost use Rattle.views.specs.PlacedView.{viewPlaceOf, PlacedView};
+ghost use Rattle.views.specs.PlacedView.{dataStart, placedIn, viewPlaceOf, PlacedView};
 
 // Where a shown part lies, by numbers: the status of the call; store 0 for the permanent one, 1 for the scratch;
 // which of its words is the first that is shown, and how many are. Refused: all 0 but the status.
@@ -43,17 +43,29 @@ fn check_view(
     objects::check_object(words, bytes, permanent, scratch, map, t, p)
 }
 
-// The store that has an area's words.
-fn store_of(area: u64) -> u64
-    ensures { λ r. ⌜ r ≡ pick (isScope area) 1 0 ⌝ }
+// The place of what was checked, in the store that has its words.
+fn placed(checked: Checked, store: u64) -> ViewPlace
+    requires { ⌜ dataStart checked < 65536 ⌝ }
+    ensures { λ r. ⌜ r ≡ placedIn checked store ⌝ }
 {
-    if 2 <= area {
-        return 1;
+    match checked {
+        Checked::Refused(n) => ViewPlace {
+            status: n,
+            store: 0,
+            from: 0,
+            len: 0,
+        },
+        Checked::Passed(o) => ViewPlace {
+            status: 0,
+            store,
+            from: o.at as u64 + 1 + o.slots,
+            len: o.data_words,
+        }
     }
-    0
 }
 
-// Where the shown part lies, for C and Rust, which cannot be given a part of a slice.
+// Where the shown part lies, for C and Rust, which cannot be given a part of a slice. Which store has the words is tested first: in the
+// code of either case nothing has to be chosen by it any more.
 pub fn view_place(
     words: &Words,
     bytes: &Bytes,
@@ -66,20 +78,10 @@ pub fn view_place(
     requires { ⌜ Usable words bytes ⌝ }
     ensures { λ r. ⌜ r ≡ viewPlaceOf (before words bytes) (supplied permanent scratch map) t p ⌝ }
 {
-    match check_view(words, bytes, permanent, scratch, map, t, p) {
-        Checked::Refused(n) => ViewPlace {
-            status: n,
-            store: 0,
-            from: 0,
-            len: 0,
-        },
-        Checked::Passed(o) => ViewPlace {
-            status: 0,
-            store: store_of(o.area),
-            from: o.at as u64 + 1 + o.slots,
-            len: o.data_words,
-        }
+    if 2 <= handle::area(p) {
+        return placed(check_view(words, bytes, permanent, scratch, map, t, p), 1);
     }
+    placed(check_view(words, bytes, permanent, scratch, map, t, p), 0)
 }
 
 // The shown part: exactly the object's data words, where they lie; where the call is refused a part
