@@ -40,11 +40,11 @@ pub fn write(
 }
 
 // Op 0a: object p, data word q; the value is the word.
-pub fn read(
+pub fn read<'a>(
     words: &Words,
     bytes: &Bytes,
-    permanent: &[u64],
-    scratch: &[u64],
+    permanent: &'a [u64],
+    scratch: &'a [u64],
     map: &[u64],
     t: u64,
     p: u64,

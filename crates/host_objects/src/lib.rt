@@ -59,11 +59,11 @@ pub extern "C" fn scopes_store(
 
 // Op 08: the value is the reference in a slot of an object.
 #[no_mangle]
-pub extern "C" fn scopes_load(
+pub extern "C" fn scopes_load<'a>(
     words: &Words,
     bytes: &Bytes,
-    permanent: &[u64],
-    scratch: &[u64],
+    permanent: &'a [u64],
+    scratch: &'a [u64],
     map: &[u64],
     t: u64,
     object: u64,
@@ -106,11 +106,11 @@ pub extern "C" fn scopes_write(
 
 // Op 0a: the value is a data word of an object.
 #[no_mangle]
-pub extern "C" fn scopes_read(
+pub extern "C" fn scopes_read<'a>(
     words: &Words,
     bytes: &Bytes,
-    permanent: &[u64],
-    scratch: &[u64],
+    permanent: &'a [u64],
+    scratch: &'a [u64],
     map: &[u64],
     t: u64,
     object: u64,
@@ -124,11 +124,11 @@ pub extern "C" fn scopes_read(
 
 // The status of showing an object's data.
 #[no_mangle]
-pub extern "C" fn scopes_view_status(
+pub extern "C" fn scopes_view_status<'a>(
     words: &Words,
     bytes: &Bytes,
-    permanent: &[u64],
-    scratch: &[u64],
+    permanent: &'a [u64],
+    scratch: &'a [u64],
     map: &[u64],
     t: u64,
     object: u64,
@@ -141,11 +141,11 @@ pub extern "C" fn scopes_view_status(
 
 // Where its data lie: a store, the first word and how many; what `views::view` shows.
 #[no_mangle]
-pub extern "C" fn scopes_view_place(
+pub extern "C" fn scopes_view_place<'a>(
     words: &Words,
     bytes: &Bytes,
-    permanent: &[u64],
-    scratch: &[u64],
+    permanent: &'a [u64],
+    scratch: &'a [u64],
     map: &[u64],
     t: u64,
     object: u64,

@@ -16,11 +16,11 @@ pub enum Checked {
 
 // Refusals 13 and 5, for a call that has passed 1 and 2. Without those two it is small enough to be
 // inlined in every op; a call would hand the buffers over through memory.
-pub fn check_object(
+pub fn check_object<'a>(
     words: &Words,
     bytes: &Bytes,
-    permanent: &[u64],
-    scratch: &[u64],
+    permanent: &'a [u64],
+    scratch: &'a [u64],
     map: &[u64],
     t: u64,
     p: u64,

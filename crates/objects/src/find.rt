@@ -43,11 +43,11 @@ fn whole(header: u64, area: u64, at: usize, offset: u64, used: u64) -> Found
 
 // The object that a handle leads to. A scope that is not open has no used words. These are read after the generation is
 // tested: read with it, they would take a register that has to be saved.
-pub fn lookup(
+pub fn lookup<'a>(
     words: &Words,
     bytes: &Bytes,
-    permanent: &[u64],
-    scratch: &[u64],
+    permanent: &'a [u64],
+    scratch: &'a [u64],
     map: &[u64],
     handle: u64,
 ) -> Found
@@ -57,6 +57,7 @@ pub fn lookup(
 {
     let area = handle::area(handle);
     let offset = handle::offset(handle);
+    let store = store::store_of(permanent, scratch, area);
     let x = held_areas::area_at(words, area as usize);
     if handle::generation(handle) != x.generation {
         return Found::Nothing;
@@ -69,6 +70,6 @@ pub fn lookup(
     if bitmap::bit(map, store::bit_index(permanent.len(), area, at)) == 0 {
         return Found::Nothing;
     }
-    let header = store::word_at(permanent, scratch, area, at);
+    let header = store[at];
     whole(header, area, at, offset, used)
 }

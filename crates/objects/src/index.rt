@@ -48,11 +48,11 @@ fn first(o: Resolved, part: Part) -> u64
 
 // Refusals 13, 5 and 14, for a call that has passed 1 and 2: word q of a part of object p. Every op names
 // its part, so that nothing of the choice is left where this is inlined.
-pub fn check_index(
+pub fn check_index<'a>(
     words: &Words,
     bytes: &Bytes,
-    permanent: &[u64],
-    scratch: &[u64],
+    permanent: &'a [u64],
+    scratch: &'a [u64],
     map: &[u64],
     t: u64,
     p: u64,

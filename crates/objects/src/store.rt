@@ -7,6 +7,16 @@ ghost use Rattle.layout.specs.Choice.{pick};
 ghost use Rattle.model.specs.State.{isScope};
 ghost use Rattle.objects.specs.Stores.{storeIn, Stores};
 
+// The store that has an area's words.
+pub fn store_of<'a>(permanent: &'a [u64], scratch: &'a [u64], area: u64) -> &'a [u64]
+    ensures { λ r. ⌜ now r ≡ storeIn (permanent .entry) (scratch .entry) area ⌝ }
+{
+    if 2 <= area {
+        return scratch;
+    }
+    permanent
+}
+
 // A word of the store that has an area's words.
 pub fn word_at(permanent: &[u64], scratch: &[u64], area: u64, at: usize) -> u64
     requires { ⌜ at < length (storeIn permanent scratch area) ⌝ }

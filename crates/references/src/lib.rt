@@ -34,11 +34,11 @@ fn may_refer(words: &Words, bytes: &Bytes, object: u64, target: u64) -> bool
 }
 
 // Refusals 15 and 5: a target or a loaded word. Null always passes.
-fn check_reference(
+fn check_reference<'a>(
     words: &Words,
     bytes: &Bytes,
-    permanent: &[u64],
-    scratch: &[u64],
+    permanent: &'a [u64],
+    scratch: &'a [u64],
     map: &[u64],
     t: u64,
     x: u64,
@@ -61,11 +61,11 @@ fn check_reference(
 // ---- op 07, store reference
 
 // Its refusals past 1 and 2. Null's area is the heap, so the assignment rule lets it pass.
-fn check_store(
+fn check_store<'a>(
     words: &Words,
     bytes: &Bytes,
-    permanent: &[u64],
-    scratch: &[u64],
+    permanent: &'a [u64],
+    scratch: &'a [u64],
     map: &[u64],
     t: u64,
     p: u64,
@@ -128,11 +128,11 @@ pub fn store(
 // ---- op 08, load reference
 
 // Object p, slot q; the value is the stored word.
-pub fn load(
+pub fn load<'a>(
     words: &Words,
     bytes: &Bytes,
-    permanent: &[u64],
-    scratch: &[u64],
+    permanent: &'a [u64],
+    scratch: &'a [u64],
     map: &[u64],
     t: u64,
     p: u64,

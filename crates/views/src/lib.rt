@@ -24,11 +24,11 @@ pub struct ViewPlace {
 }
 
 // Refusals 1, 2, 13 and 5.
-fn check_view(
+fn check_view<'a>(
     words: &Words,
     bytes: &Bytes,
-    permanent: &[u64],
-    scratch: &[u64],
+    permanent: &'a [u64],
+    scratch: &'a [u64],
     map: &[u64],
     t: u64,
     p: u64,
@@ -66,11 +66,11 @@ fn placed(checked: Checked, store: u64) -> ViewPlace
 
 // Where the shown part lies, for C and Rust, which cannot be given a part of a slice. Which store has the words is tested first: in the
 // code of either case nothing has to be chosen by it any more.
-pub fn view_place(
+pub fn view_place<'a>(
     words: &Words,
     bytes: &Bytes,
-    permanent: &[u64],
-    scratch: &[u64],
+    permanent: &'a [u64],
+    scratch: &'a [u64],
     map: &[u64],
     t: u64,
     p: u64,
@@ -109,11 +109,11 @@ pub fn view<'a>(
 }
 
 // The call beside it.
-pub fn view_status(
+pub fn view_status<'a>(
     words: &Words,
     bytes: &Bytes,
-    permanent: &[u64],
-    scratch: &[u64],
+    permanent: &'a [u64],
+    scratch: &'a [u64],
     map: &[u64],
     t: u64,
     p: u64,

@@ -1,6 +1,8 @@
 -- `lookup` meets its contract: one law for each way that it ends.
 use mathlib.Core.Path.{_≡_, ap, subst, sym, _∙_}
-use Prim.Native.Nat.{ℕ, _<_, _≤_}
+use Prim.Native.Nat.{ℕ, _+_, _<_, _≤_}
+use mathlib.Core.List.{List}
+use lib.ListN.{length, getD}
 use native.Mathlib.Omega.{arith}
 use borrow.Author.Needs.{needs}
 use denote.Ref.{now}
@@ -9,6 +11,7 @@ use Rattle.model.specs.declared.Area.{Area}
 use Rattle.model.specs.State.{State, Memory}
 use Rattle.tables.specs.Laws.{area-read}
 use Rattle.tables.specs.Contract.{stateIn, memoryIn}
+use Rattle.objects.specs.Found.{endsOf}
 use Rattle.objects.specs.Places.{refused-as}
 use Rattle.objects.specs.Steps.{HandleRead, offset-low, other-generation, past-used, word-low, bit-low, word-in, bit-in, no-bit, ends}
 use Rattle.objects.proofs.find.lookup.Statement.{statement}
@@ -18,11 +21,11 @@ low : (c : tie.After-offset) → c .before .area .result < 64
 low c = rw (c .before .area .ensures) (area-lt (c .before .before .before .before .before .args .handle))
 
 area-at-requires : tie.Need-area-at-requires
-area-at-requires c κs = low c
+area-at-requires c κs = low (c .before)
 
 -- the entry, and what has been read past the call of area_at
 abbrev start : tie.After-area-at → tie.Start
-start c = c .before .before .before .before .before .before
+start c = c .before .before .before .before .before .before .before
 
 abbrev state : tie.After-area-at → State
 state c = stateIn (start c .args .words) (start c .args .bytes)
@@ -30,21 +33,25 @@ state c = stateIn (start c .args .words) (start c .args .bytes)
 abbrev memory : tie.After-area-at → Memory
 memory c = memoryIn (start c .args .permanent) (start c .args .scratch) (start c .args .map)
 
-read : (c : tie.After-area-at) → HandleRead (now (start c .args .words)) (now (start c .args .bytes)) (memory c) (start c .args .handle) (c .before .before .area .result) (c .before .offset .result) (c .area-at .result)
+read : (c : tie.After-area-at) → HandleRead (now (start c .args .words)) (now (start c .args .bytes)) (memory c) (start c .args .handle) (c .before .before .before .area .result) (c .before .before .offset .result) (c .area-at .result)
 read c = record {
   ready = start c .pre .0;
   fitting = start c .pre .1;
-  area-is = c .before .before .area .ensures;
-  offset-is = c .before .offset .ensures;
-  record-is = c .area-at .ensures ∙ sym (area-read (now (start c .args .words)) (now (start c .args .bytes)) (c .before .before .area .result) (low (c .before)));
+  area-is = c .before .before .before .area .ensures;
+  offset-is = c .before .before .offset .ensures;
+  record-is = c .area-at .ensures ∙ sym (area-read (now (start c .args .words)) (now (start c .args .bytes)) (c .before .before .before .area .result) (low (c .before .before)));
 }
 
 -- the used words are read once more, and are the same
 used-is : (c : tie.After-area-at2) → c .area-at2 .result .used ≡ c .before .before .before .before .area-at .result .used
 used-is c = ap (λ (x : Area). x .used) (c .area-at2 .ensures ∙ sym (c .before .before .before .before .area-at .ensures))
 
-within : (c : tie.Else2) → c .before .before .before .before .before .before .offset .result < c .before .before .before .before .before .area-at .result .used
-within c = subst (λ (n : ℕ). c .before .before .before .before .before .before .offset .result < n) (used-is (c .before)) (c .if2 .left)
+-- past the tests of the generation and of the used words: what has been read
+abbrev found : tie.Else2 → tie.After-area-at
+found e = e .before .before .before .before .before
+
+within : (e : tie.Else2) → found e .before .before .offset .result < found e .area-at .result .used
+within e = subst (λ (n : ℕ). found e .before .before .offset .result < n) (used-is (e .before)) (e .if2 .left)
 
 returns : tie.Need-returns
 returns c =
@@ -54,48 +61,66 @@ returns c =
 returns-2 : tie.Need-returns-2
 returns-2 c =
     let d = c .before .before .before .before .before in
-    refused-as (state d) (memory d) (start d .args .handle) (start d .pre .0 .good) (past-used _ _ _ _ _ _ _ (read d) (subst (λ (n : ℕ). n ≤ d .before .offset .result) (used-is (c .before)) (c .if2 .taken)))
+    refused-as (state d) (memory d) (start d .args .handle) (start d .pre .0 .good) (past-used _ _ _ _ _ _ _ (read d) (subst (λ (n : ℕ). n ≤ d .before .before .offset .result) (used-is (c .before)) (c .if2 .taken)))
 
 add-at : tie.Need-add-at
-add-at c = omega (arith, word-low _ _ _ _ _ _ _ (read (c .before .before .before .before .before .before)) (within (c .before)))
+add-at c = omega (arith, word-low _ _ _ _ _ _ _ (read (found (c .before))) (within (c .before)))
 
 bit-index-requires : tie.Need-bit-index-requires
-bit-index-requires c κs = bit-low _ _ _ _ _ _ _ (read (c .before .before .before .before .before .before)) (within (c .before))
+bit-index-requires c κs = bit-low _ _ _ _ _ _ _ (read (found (c .before))) (within (c .before))
 
 bit-requires : tie.Need-bit-requires
-bit-requires c κs = bit-in _ _ _ _ _ _ _ (read (c .before .before .before .before .before .before .before)) (within (c .before .before)) _ (c .bit-index .ensures)
+bit-requires c κs = let e = c .before .before in bit-in _ _ _ _ _ _ _ (read (found e)) (within e) _ (c .bit-index .ensures)
 
 returns-3 : tie.Need-returns-3
 returns-3 c =
-    let d = c .before .before .before .before .before .before .before .before .before in
+    let e = c .before .before .before .before in
+    let d = found e in
     refused-as (state d) (memory d) (start d .args .handle) (start d .pre .0 .good)
-    (no-bit _ _ _ _ _ _ _ (read d) (within (c .before .before .before .before)) _ (c .before .before .bit-index .ensures)
+    (no-bit _ _ _ _ _ _ _ (read d) (within e) _ (c .before .before .bit-index .ensures)
     (sym (c .before .bit .ensures) ∙ c .if3 .taken))
 
-word-at-requires : tie.Need-word-at-requires
-word-at-requires c κs = word-in _ _ _ _ _ _ _ (read (c .before .before .before .before .before .before .before .before .before)) (within (c .before .before .before .before))
+-- past the map bit: the place of the header, which lies in its store
+abbrev kept : tie.Else3 → tie.Else2
+kept c = c .before .before .before .before
+
+abbrev place : tie.Else3 → ℕ
+place c = found (kept c) .area-at .result .start + found (kept c) .before .before .offset .result
+
+in-store : (c : tie.Else3) → place c < length (now (found (kept c) .before .store-of .result))
+in-store c =
+    subst (λ (l : List ℕ). place c < length l) (sym (found (kept c) .before .store-of .ensures))
+    (word-in _ _ _ _ _ _ _ (read (found (kept c))) (within (kept c)))
+
+mul-header : tie.Need-mul-header
+mul-header c = let h = in-store c in search needs
+
+shared-slice-read-header : tie.Need-shared-slice-read-header
+shared-slice-read-header c = in-store (c .before)
 
 whole-requires : tie.Need-whole-requires
-whole-requires c κs = offset-low _ _ _ _ _ _ _ (read (c .before .before .before .before .before .before .before .before .before .before))
+whole-requires c κs = offset-low _ _ _ _ _ _ _ (read (found (kept (c .before))))
 
 returns-4 : tie.Need-returns-4
 returns-4 c =
-    let d = c .before .before .before .before .before .before .before .before .before .before .before in
-    let r = read d in
+    let b = c .before .before in
+    let e = kept b in
+    let d = found e in
     refused-as (state d) (memory d) (start d .args .handle) (start d .pre .0 .good)
     (c .whole .ensures
-    ∙ rw (c .before .word-at .ensures, used-is (c .before .before .before .before .before .before .before))
-    (ends _ _ _ _ _ _ _ r (within (c .before .before .before .before .before .before)) _ (c .before .before .before .before .bit-index .ensures)
-    (sym (c .before .before .before .before .before .before .before .before .before .before .generation .ensures) ∙ c .before .before .before .before .before .before .before .before .if1 .left)
-    (λ z. c .before .before .if3 .left (c .before .before .before .bit .ensures ∙ z))))
+    ∙ ap (endsOf _ _ _ _) (used-is (e .before))
+    ∙ ap (λ (l : List ℕ). endsOf (getD l (place b) 0) (d .before .before .before .area .result) (place b) (d .before .before .offset .result) (d .area-at .result .used)) (d .before .store-of .ensures)
+    ∙ ends _ _ _ _ _ _ _ (read d) (within e) _ (b .before .before .bit-index .ensures)
+    (sym (e .before .before .before .before .generation .ensures) ∙ e .before .before .if1 .left)
+    (λ z. b .if3 .left (b .before .bit .ensures ∙ z)))
 
 pub lookup-spec : {M : Type 1} → statement M
 lookup-spec =
     tie.close
     (tie.spec
-    (λ c κs. search needs) (λ c κs. search needs) area-at-requires (λ c κs. search needs)
+    (λ c κs. search needs) (λ c κs. search needs) (λ c κs. search needs) area-at-requires (λ c κs. search needs)
     returns
-    (λ c κs. low (c .before .before .before .before))
+    (λ c κs. low (c .before .before .before .before .before))
     returns-2
     add-at bit-index-requires bit-requires returns-3
-    word-at-requires whole-requires returns-4)
+    mul-header shared-slice-read-header whole-requires returns-4)
