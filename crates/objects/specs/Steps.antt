@@ -1,7 +1,7 @@
 -- One law for each way that a lookup ends, over what its code has read.
 -- Assumes nothing.
 use Prim.Native.Nat.{ℕ, suc, _+_, _/_, _≤_, _<_}
-use mathlib.Core.Bool.{true}
+use mathlib.Core.Bool.{Bool, true, false}
 use mathlib.Core.List.{List}
 use mathlib.Core.Path.{_≡_, refl, sym, ap, _∙_}
 use native.Mathlib.Omega.{arith}
@@ -51,6 +51,10 @@ bit-one l w n = omega arith
 
 -- ---- the steps
 
+pub pick-most : (b : Bool) (n : ℕ) → pick b n 0 ≤ n
+pick-most true n = omega arith
+pick-most false n = omega arith
+
 -- what the code has read: the handle's area and offset, and the area's record
 pub record HandleRead (w b : List ℕ) (m : Memory) (h a o : ℕ) (x : Area) : Type 0 where
   pub ready : Ready w b
@@ -89,6 +93,9 @@ module _ (w b : List ℕ) (m : Memory) (h a o : ℕ) (x : Area) (d : HandleRead 
     module _ (i : ℕ) (e : i ≡ pick (isScope a) (length (m .permanent)) 0 + (x .start + o)) where
       index-is : i ≡ bitIndex (stateOf w b) (areaOf h) (offsetOf h)
       index-is = e ∙ rw (d .area-is, d .offset-is, supplied-lengths (stateOf w b) m (d .fitting) .permanent, ap (λ (y : Area). y .start) here) refl
+
+      pub bit-fits : i < 65536
+      bit-fits = omega (arith, bit-low, e, pick-most (isScope a) (length (m .permanent)))
 
       pub bit-in : i / 64 < length (m .map)
       bit-in = omega (arith, index-is, in-area .bits, in-area .used, d .offset-is, k, ap (λ (y : Area). y .used) here)

@@ -41,8 +41,8 @@ fn whole(header: u64, area: u64, at: usize, offset: u64, used: u64) -> Found
     })
 }
 
-// The object that a handle leads to. A scope that is not open has no used words. These are read after the generation is
-// tested: read with it, they would take a register that has to be saved.
+// The object that a handle leads to. A scope that is not open has no used words. So that few registers have to be saved, what depends on the
+// store is chosen first, and the used words are read after the generation is tested.
 pub fn lookup<'a>(
     words: &Words,
     bytes: &Bytes,
@@ -58,6 +58,7 @@ pub fn lookup<'a>(
     let area = handle::area(handle);
     let offset = handle::offset(handle);
     let store = store::store_of(permanent, scratch, area);
+    let first = store::first_bit(permanent.len(), area);
     let x = held_areas::area_at(words, area as usize);
     if handle::generation(handle) != x.generation {
         return Found::Nothing;
@@ -67,7 +68,7 @@ pub fn lookup<'a>(
         return Found::Nothing;
     }
     let at = (x.start + offset) as usize;
-    if bitmap::bit(map, store::bit_index(permanent.len(), area, at)) == 0 {
+    if bitmap::bit(map, first + at) == 0 {
         return Found::Nothing;
     }
     let header = store[at];

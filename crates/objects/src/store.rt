@@ -40,13 +40,20 @@ pub fn put_word(permanent: &mut [u64], scratch: &mut [u64], area: u64, at: usize
     scratch[at] = word;
 }
 
-// The place of a word in the start map: permanent words count first, then scratch words.
+// How many map bits come before those of the store that has an area's words: permanent words count first, then scratch words.
+pub fn first_bit(permanent: usize, area: u64) -> usize
+    ensures { λ r. ⌜ r ≡ pick (isScope area) permanent 0 ⌝ }
+{
+    if 2 <= area {
+        return permanent;
+    }
+    0
+}
+
+// The place of a word in the start map.
 pub fn bit_index(permanent: usize, area: u64, at: usize) -> usize
     requires { ⌜ permanent + at < 65536 ⌝ }
     ensures { λ r. ⌜ r ≡ pick (isScope area) permanent 0 + at ⌝ }
 {
-    if 2 <= area {
-        return permanent + at;
-    }
-    at
+    first_bit(permanent, area) + at
 }

@@ -6,14 +6,15 @@ use lib.ListN.{length, getD}
 use native.Mathlib.Omega.{arith}
 use borrow.Author.Needs.{needs}
 use denote.Ref.{now}
+use Rattle.layout.specs.Choice.{pick}
 use Rattle.layout.specs.HandleLaws.{area-lt}
 use Rattle.model.specs.declared.Area.{Area}
-use Rattle.model.specs.State.{State, Memory}
+use Rattle.model.specs.State.{State, Memory, isScope}
 use Rattle.tables.specs.Laws.{area-read}
 use Rattle.tables.specs.Contract.{stateIn, memoryIn}
 use Rattle.objects.specs.Found.{endsOf}
 use Rattle.objects.specs.Places.{refused-as}
-use Rattle.objects.specs.Steps.{HandleRead, offset-low, other-generation, past-used, word-low, bit-low, word-in, bit-in, no-bit, ends}
+use Rattle.objects.specs.Steps.{HandleRead, offset-low, other-generation, past-used, word-low, word-in, bit-fits, bit-in, no-bit, ends}
 use Rattle.objects.proofs.find.lookup.Statement.{statement}
 use Rattle.objects.proofs.find.lookup.Tie as tie
 
@@ -21,11 +22,11 @@ low : (c : tie.After-offset) → c .before .area .result < 64
 low c = rw (c .before .area .ensures) (area-lt (c .before .before .before .before .before .args .handle))
 
 area-at-requires : tie.Need-area-at-requires
-area-at-requires c κs = low (c .before)
+area-at-requires c κs = low (c .before .before)
 
 -- the entry, and what has been read past the call of area_at
 abbrev start : tie.After-area-at → tie.Start
-start c = c .before .before .before .before .before .before .before
+start c = c .before .before .before .before .before .before .before .before
 
 abbrev state : tie.After-area-at → State
 state c = stateIn (start c .args .words) (start c .args .bytes)
@@ -33,13 +34,13 @@ state c = stateIn (start c .args .words) (start c .args .bytes)
 abbrev memory : tie.After-area-at → Memory
 memory c = memoryIn (start c .args .permanent) (start c .args .scratch) (start c .args .map)
 
-read : (c : tie.After-area-at) → HandleRead (now (start c .args .words)) (now (start c .args .bytes)) (memory c) (start c .args .handle) (c .before .before .before .area .result) (c .before .before .offset .result) (c .area-at .result)
+read : (c : tie.After-area-at) → HandleRead (now (start c .args .words)) (now (start c .args .bytes)) (memory c) (start c .args .handle) (c .before .before .before .before .area .result) (c .before .before .before .offset .result) (c .area-at .result)
 read c = record {
   ready = start c .pre .0;
   fitting = start c .pre .1;
-  area-is = c .before .before .before .area .ensures;
-  offset-is = c .before .before .offset .ensures;
-  record-is = c .area-at .ensures ∙ sym (area-read (now (start c .args .words)) (now (start c .args .bytes)) (c .before .before .before .area .result) (low (c .before .before)));
+  area-is = c .before .before .before .before .area .ensures;
+  offset-is = c .before .before .before .offset .ensures;
+  record-is = c .area-at .ensures ∙ sym (area-read (now (start c .args .words)) (now (start c .args .bytes)) (c .before .before .before .before .area .result) (low (c .before .before .before)));
 }
 
 -- the used words are read once more, and are the same
@@ -50,8 +51,8 @@ used-is c = ap (λ (x : Area). x .used) (c .area-at2 .ensures ∙ sym (c .before
 abbrev found : tie.Else2 → tie.After-area-at
 found e = e .before .before .before .before .before
 
-within : (e : tie.Else2) → found e .before .before .offset .result < found e .area-at .result .used
-within e = subst (λ (n : ℕ). found e .before .before .offset .result < n) (used-is (e .before)) (e .if2 .left)
+within : (e : tie.Else2) → found e .before .before .before .offset .result < found e .area-at .result .used
+within e = subst (λ (n : ℕ). found e .before .before .before .offset .result < n) (used-is (e .before)) (e .if2 .left)
 
 returns : tie.Need-returns
 returns c =
@@ -61,35 +62,38 @@ returns c =
 returns-2 : tie.Need-returns-2
 returns-2 c =
     let d = c .before .before .before .before .before in
-    refused-as (state d) (memory d) (start d .args .handle) (start d .pre .0 .good) (past-used _ _ _ _ _ _ _ (read d) (subst (λ (n : ℕ). n ≤ d .before .before .offset .result) (used-is (c .before)) (c .if2 .taken)))
+    refused-as (state d) (memory d) (start d .args .handle) (start d .pre .0 .good) (past-used _ _ _ _ _ _ _ (read d) (subst (λ (n : ℕ). n ≤ d .before .before .before .offset .result) (used-is (c .before)) (c .if2 .taken)))
 
 add-at : tie.Need-add-at
 add-at c = omega (arith, word-low _ _ _ _ _ _ _ (read (found (c .before))) (within (c .before)))
 
-bit-index-requires : tie.Need-bit-index-requires
-bit-index-requires c κs = bit-low _ _ _ _ _ _ _ (read (found (c .before))) (within (c .before))
+-- the place of the word in its store, and of its map bit
+abbrev place : tie.Else2 → ℕ
+place e = found e .area-at .result .start + found e .before .before .before .offset .result
+
+index : (e : tie.Else2) → found e .before .first-bit .result + place e ≡ pick (isScope (found e .before .before .before .before .area .result)) (length (memory (found e) .permanent)) 0 + place e
+index e = ap (λ (n : ℕ). n + place e) (found e .before .first-bit .ensures)
+
+add-bit : tie.Need-add-bit
+add-bit c = omega (arith, bit-fits _ _ _ _ _ _ _ (read (found (c .before))) (within (c .before)) _ (index (c .before)))
 
 bit-requires : tie.Need-bit-requires
-bit-requires c κs = let e = c .before .before in bit-in _ _ _ _ _ _ _ (read (found e)) (within e) _ (c .bit-index .ensures)
+bit-requires c κs = bit-in _ _ _ _ _ _ _ (read (found (c .before))) (within (c .before)) _ (index (c .before))
 
 returns-3 : tie.Need-returns-3
 returns-3 c =
-    let e = c .before .before .before .before in
+    let e = c .before .before .before in
     let d = found e in
     refused-as (state d) (memory d) (start d .args .handle) (start d .pre .0 .good)
-    (no-bit _ _ _ _ _ _ _ (read d) (within e) _ (c .before .before .bit-index .ensures)
-    (sym (c .before .bit .ensures) ∙ c .if3 .taken))
+    (no-bit _ _ _ _ _ _ _ (read d) (within e) _ (index e) (sym (c .before .bit .ensures) ∙ c .if3 .taken))
 
--- past the map bit: the place of the header, which lies in its store
+-- past the map bit: the header lies in its store
 abbrev kept : tie.Else3 → tie.Else2
-kept c = c .before .before .before .before
+kept c = c .before .before .before
 
-abbrev place : tie.Else3 → ℕ
-place c = found (kept c) .area-at .result .start + found (kept c) .before .before .offset .result
-
-in-store : (c : tie.Else3) → place c < length (now (found (kept c) .before .store-of .result))
+in-store : (c : tie.Else3) → place (kept c) < length (now (found (kept c) .before .before .store-of .result))
 in-store c =
-    subst (λ (l : List ℕ). place c < length l) (sym (found (kept c) .before .store-of .ensures))
+    subst (λ (l : List ℕ). place (kept c) < length l) (sym (found (kept c) .before .before .store-of .ensures))
     (word-in _ _ _ _ _ _ _ (read (found (kept c))) (within (kept c)))
 
 mul-header : tie.Need-mul-header
@@ -109,8 +113,8 @@ returns-4 c =
     refused-as (state d) (memory d) (start d .args .handle) (start d .pre .0 .good)
     (c .whole .ensures
     ∙ ap (endsOf _ _ _ _) (used-is (e .before))
-    ∙ ap (λ (l : List ℕ). endsOf (getD l (place b) 0) (d .before .before .before .area .result) (place b) (d .before .before .offset .result) (d .area-at .result .used)) (d .before .store-of .ensures)
-    ∙ ends _ _ _ _ _ _ _ (read d) (within e) _ (b .before .before .bit-index .ensures)
+    ∙ ap (λ (l : List ℕ). endsOf (getD l (place e) 0) (d .before .before .before .before .area .result) (place e) (d .before .before .before .offset .result) (d .area-at .result .used)) (d .before .before .store-of .ensures)
+    ∙ ends _ _ _ _ _ _ _ (read d) (within e) _ (index e)
     (sym (e .before .before .before .before .generation .ensures) ∙ e .before .before .if1 .left)
     (λ z. b .if3 .left (b .before .bit .ensures ∙ z)))
 
@@ -118,9 +122,9 @@ pub lookup-spec : {M : Type 1} → statement M
 lookup-spec =
     tie.close
     (tie.spec
-    (λ c κs. search needs) (λ c κs. search needs) (λ c κs. search needs) area-at-requires (λ c κs. search needs)
+    (λ c κs. search needs) (λ c κs. search needs) (λ c κs. search needs) (λ c κs. search needs) area-at-requires (λ c κs. search needs)
     returns
-    (λ c κs. low (c .before .before .before .before .before))
+    (λ c κs. low (c .before .before .before .before .before .before))
     returns-2
-    add-at bit-index-requires bit-requires returns-3
+    add-at add-bit bit-requires returns-3
     mul-header shared-slice-read-header whole-requires returns-4)

@@ -1,15 +1,17 @@
--- `bit_index` meets its contract: permanent words count before scratch words.
+-- `bit_index` meets its contract: the bits of its store begin at the first.
+use mathlib.Core.Path.{ap}
+use native.Mathlib.Omega.{arith}
+use Prim.Native.Nat.{ℕ, _+_}
 use borrow.Author.Needs.{needs}
-use borrow.Author.Tests.{le-leb, lt-leb}
-use native.Mathlib.Nat.{zero-add}
+use Rattle.model.specs.State.{isScope}
+use Rattle.objects.specs.Steps.{pick-most}
 use Rattle.objects.proofs.store.bit_index.Statement.{statement}
 use Rattle.objects.proofs.store.bit_index.Tie as tie
 
-returns : tie.Need-returns
-returns c = rw (le-leb 2 (c .before .args .area) (c .if1 .taken))
-
-returns-2 : tie.Need-returns-2
-returns-2 c = rw (lt-leb 2 (c .before .args .area) (c .if1 .left), zero-add)
+add-result : tie.Need-add-result
+add-result c =
+    let a = c .before .args in
+    omega (arith, c .before .pre, c .first-bit .ensures, pick-most (isScope (a .area)) (a .permanent))
 
 pub bit-index-spec : {M : Type 1} → statement M
-bit-index-spec = tie.close (tie.spec (λ c. search needs) returns returns-2)
+bit-index-spec = tie.close (tie.spec (λ c κs. search needs) add-result (λ c. ap (λ (n : ℕ). n + c .before .args .at) (c .first-bit .ensures)))
