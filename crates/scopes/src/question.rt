@@ -8,11 +8,11 @@ ghost use Rattle.model.specs.Ops.{callOf};
 ghost use Rattle.tables.specs.Contract.{Usable, Answers};
 
 // The answer is that of the call's definition; the tables and the buffers stay.
-pub fn carry_question(
+pub fn carry_question<'a>(
     words: &Words,
     bytes: &Bytes,
-    permanent: &[u64],
-    scratch: &[u64],
+    permanent: &'a [u64],
+    scratch: &'a [u64],
     map: &[u64],
     op: QuestionOp,
     t: u64,
