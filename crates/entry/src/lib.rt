@@ -213,10 +213,10 @@ pub fn enter_on(words: &mut Words, bytes: &mut Bytes, t: u64, q: u64) -> Answer
             value: 0,
         };
     }
-    if q < 2 {
-        return enter_standing(words, bytes, t as usize, q);
+    if 2 <= q {
+        return enter_scope(words, bytes, t as usize, q);
     }
-    enter_scope(words, bytes, t as usize, q)
+    enter_standing(words, bytes, t as usize, q)
 }
 
 pub fn enter(

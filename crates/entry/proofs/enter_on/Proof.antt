@@ -30,17 +30,17 @@ returns-2 c =
     let a = start d .args in
     changed-refused _ _ _ (start d .pre) (enter-no-area (state d) (a .t) (a .q) (called d) (c .if2 .taken)) (λ z. omega arith)
 
-enter-standing-requires : tie.Need-enter-standing-requires
-enter-standing-requires c κs =
-    let e = c .before .before in
-    let d = e .before .before in
-    (start d .pre, called d, e .if3 .taken)
-
 enter-scope-requires : tie.Need-enter-scope-requires
 enter-scope-requires c κs =
     let e = c .before .before in
     let d = e .before .before in
-    (start d .pre, called d, e .if3 .left, e .before .if2 .left)
+    (start d .pre, called d, e .if3 .taken, e .before .if2 .left)
+
+enter-standing-requires : tie.Need-enter-standing-requires
+enter-standing-requires c κs =
+    let e = c .before .before in
+    let d = e .before .before in
+    (start d .pre, called d, e .if3 .left)
 
 pub enter-on-spec : {M : Type 1} → statement M
 enter-on-spec =
@@ -49,7 +49,7 @@ enter-on-spec =
     (λ c κs. search needs)
     returns
     returns-2
-    enter-standing-requires
-    (λ c. c .enter-standing .ensures)
     enter-scope-requires
-    (λ c. c .enter-scope .ensures))
+    (λ c. c .enter-scope .ensures)
+    enter-standing-requires
+    (λ c. c .enter-standing .ensures))
