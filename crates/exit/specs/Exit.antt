@@ -13,13 +13,18 @@ use Rattle.model.specs.declared.Area.{Area}
 use Rattle.model.specs.State.{State, areaAt, threadAt, withArea, withThread, stackAt, current, isScope}
 use Rattle.model.specs.Checks.{called}
 use Rattle.model.specs.Scopes.{exitRest, left, leftArea, popped, exitState, exitValue}
+use Rattle.model.specs.Invariant.{Good}
 use Rattle.model.proofs.Accepted.{Called, ExitOk, exit-ok}
 use Rattle.tables.specs.declared.ThreadWords.{ThreadWords}
 use Rattle.tables.specs.Decode.{stateOf, areaRecord, putArea, threadRecord, putThread, Shaped, Holds}
 use Rattle.tables.specs.Laws.{area-read, kind-read, len-read, state-area, state-thread}
-use Rattle.callers.specs.Caller.{thread-refused, called-rest}
+use Rattle.callers.specs.Caller.{no-thread, started, thread-refused, called-rest}
 
 module _ (s : State) (t : ℕ) where
+  pub exit-no-thread : 16 ≤ t → 2 ≡ exitRest s t
+  unfolding exitRest
+  exit-no-thread h = no-thread s t _ h
+
   pub exit-not-called : {n : ℕ} → n ≡ called s t 0 → n ≢ 0 → n ≡ exitRest s t
   unfolding exitRest
   exit-not-called e h = thread-refused s t e h _
@@ -29,9 +34,12 @@ module _ (s : State) (t : ℕ) where
     unfolding exitRest
     exit-empty h = sym (called-rest s t a _ ∙ hit _ 11 0 (eq-eqb (threadAt s t .len) 0 h))
 
-    pub exit-accepted : threadAt s t .len ≢ 0 → 0 ≡ exitRest s t
-    unfolding exitRest
-    exit-accepted h = sym (called-rest s t a _ ∙ skip _ 11 0 (ne-eqb (threadAt s t .len) 0 h))
+  -- a thread with entries is started
+  pub exit-accepted : Good s → t < 16 → 0 < threadAt s t .len → 0 ≡ exitRest s t
+  unfolding exitRest
+  exit-accepted g h n =
+      let empty = g .threads .each t h .idle in
+      sym (skip _ 11 0 (ne-eqb (threadAt s t .len) 0 (λ z. omega (arith, n)))) ∙ started s t _ h (λ z. omega (arith, n, empty z))
 
   -- n is what check_exit answers
   pub exit-passed : {n : ℕ} → n ≡ exitRest s t → n ≡ 0 → ExitOk s t
@@ -65,8 +73,8 @@ module _ (w b : List ℕ) (z : Shaped w b) (q : ℕ) where
   count-scope k h = rw (area-read w b q k, le-leb 2 q h) refl
 
 -- a scope that is left is open, from its record in the words
-pub left-open : (w b : List ℕ) (q : ℕ) {x : Area} → q < 64 → (2 ≤ q → 0 < areaAt (stateOf w b) q .count) → x ≡ areaRecord w q → 2 ≤ q → 0 < x .count
-left-open w b q k o e h = rw (area-read w b q k ∙ sym e) at (o h)
+pub left-open : (w b : List ℕ) (q : ℕ) → q < 64 → (2 ≤ q → 0 < areaAt (stateOf w b) q .count) → 2 ≤ q → 0 < areaRecord w q .count
+left-open w b q k o h = rw (area-read w b q k) at (o h)
 
 -- ---- the stack
 

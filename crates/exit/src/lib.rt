@@ -10,32 +10,32 @@ ghost use Rattle.layout.specs.Choice.{pick};
 ghost use Rattle.model.specs.State.{isScope, areaAt, threadAt, withThread};
 ghost use Rattle.model.specs.Scopes.{exitRest, left, leftArea, popped, exitState, exitValue, exitChange};
 ghost use Rattle.model.specs.Calls as calls;
-ghost use Rattle.tables.specs.Decode.{Shaped};
+ghost use Rattle.tables.specs.Decode.{areaRecord, putArea, Shaped};
 ghost use Rattle.tables.specs.Contract.{stateIn, before, Leaves, Usable, Changes, Answers};
 
+// A thread that is not started has no entry, so its kind is looked at only where the stack is empty.
 fn check_exit(words: &Words, bytes: &Bytes, t: u64) -> u64
+    requires { ⌜ Usable words bytes ⌝ }
     ensures { λ n. ⌜ n ≡ exitRest (before words bytes) t ⌝ }
 {
+    if 16 <= t {
+        return 2; // above 15
+    }
+    if 0 < held_threads::thread_at(words, t as usize).len {
+        return 0;
+    }
     let refusal = callers::check_thread(words, bytes, t);
     if refusal != 0 {
         return refusal;
     }
-    if held_threads::thread_at(words, t as usize).len == 0 {
-        return 11;
-    }
-    0
+    11
 }
 
-// A scope with one entry less: after the last it has no parent, no used words and no display.
-fn left_area(x: Area) -> Area
-    requires { ⌜ 0 < x .count ⌝ }
+// A scope after its last exit: it has no parent, no used words and no display.
+fn closed_area(x: Area) -> Area
+    requires { ⌜ x .count ≡ 1 ⌝ }
     ensures { λ r. ⌜ r ≡ left x ⌝ }
 {
-    if 1 < x.count {
-        let mut next = x;
-        next.count = x.count - 1;
-        return next;
-    }
     Area {
         start: x.start,
         size: x.size,
@@ -47,18 +47,42 @@ fn left_area(x: Area) -> Area
     }
 }
 
+// A scope after another exit.
+fn open_area(x: Area) -> Area
+    requires { ⌜ 1 < x .count ⌝ }
+    ensures { λ r. ⌜ r ≡ left x ⌝ }
+{
+    let mut next = x;
+    next.count = x.count - 1;
+    next
+}
+
+// Scope q is left; the count that is left. The two ways are written apart, so that each writes only what it changes.
+fn leave_scope(words: &mut Words, q: usize) -> u64
+    requires { ⌜ (q < 64) × (0 < areaRecord (now words) q .count) ⌝ }
+    ensures value { λ r. ⌜ r ≡ left (areaRecord (now (words .entry)) q) .count ⌝ }
+    ensures words { λ r. ⌜ now (words .exit) ≡ putArea (now (words .entry)) q (left (areaRecord (now (words .entry)) q)) ⌝ }
+{
+    let x = held_areas::area_at(words, q);
+    if x.count < 2 {
+        held_areas::put_area(words, q, closed_area(x));
+        return 0;
+    }
+    let y = open_area(x);
+    held_areas::put_area(words, q, y);
+    y.count
+}
+
 // Area q is left; the count that is left of a scope, else 0.
 fn leave_area(words: &mut Words, bytes: &Bytes, q: usize) -> u64
     requires { ⌜ Shaped (now words) (now bytes) × (q < 64) × (2 ≤ q → 0 < areaAt (stateIn words bytes) q .count) ⌝ }
     ensures value { λ r. ⌜ r ≡ pick (isScope q) (pred (areaAt (before words bytes) q .count)) 0 ⌝ }
     ensures state { λ r. ⌜ Leaves words bytes (leftArea (before words bytes) q) ⌝ }
 {
-    if q < 2 {
-        return 0;
+    if 2 <= q {
+        return leave_scope(words, q);
     }
-    let y = left_area(held_areas::area_at(words, q));
-    held_areas::put_area(words, q, y);
-    y.count
+    0
 }
 
 // The top entry is taken off.

@@ -20,10 +20,11 @@ returns-2 : tie.Need-returns-2
 returns-2 c =
     let o = c .before .before .before .before .before in
     let a = o .args in
+    let s = stateIn (a .words) (a .bytes) in
     let e = c .before .before .before .check-exit .ensures in
     let z = c .before .before .if1 .left in
     changed-accepted _ _ _ (o .pre) e z (c .apply-exit .ensures .0) (c .apply-exit .ensures .1)
-    (good-exit (stateIn (a .words) (a .bytes)) (a .t) (o .pre .good) (exit-passed _ _ e z))
+    (good-exit s (a .t) (o .pre .good) (exit-passed s (a .t) e z))
 
 pub exit-on-spec : {M : Type 1} → statement M
 exit-on-spec = tie.close (tie.spec (λ c κs. search needs) returns apply-exit-requires returns-2)
