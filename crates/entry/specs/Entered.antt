@@ -36,65 +36,64 @@ module _ (w b : List ℕ) (t q : ℕ) (h : q < 2) where
   unfolding enterState enteredArea pushedState pushed
   standing-holds i e k = record { sized = k .sized; state = k .state ∙ rw (e, lt-leb 2 q h) refl }
 
--- ---- a scope, where x is what the code reads of it, y what it makes of it, and v the words after that
+-- ---- a scope: v and d are the tables after its entry is on the stack, x what the code reads of it then, y what it makes of it
 
-module _ (w b : List ℕ) (z : Shaped w b) (t q : ℕ) (k : Enterable (stateOf w b) t q) (h : 2 ≤ q) {x : Area} (y : Area) {v : List ℕ} (e : x ≡ areaRecord w q) (g : v ≡ putArea w q y) where
-  here : areaAt (stateOf w b) q ≡ x
-  here = area-read w b q (k .area) ∙ sym e
+module _ (w b : List ℕ) (t q : ℕ) (k : Enterable (stateOf w b) t q) (h : 2 ≤ q) {v d : List ℕ} (m : Holds v d (pushedState (stateOf w b) t q q)) where
+  -- an area is as it was
+  pub area-kept : (a : ℕ) {x : Area} → a < 64 → x ≡ areaRecord v a → x ≡ areaAt (stateOf w b) a
+  unfolding pushedState withThread
+  area-kept a l e = e ∙ sym (area-read v d a l) ∙ ap (λ (r : State). areaAt r a) (m .state)
 
-  written : Holds v b (withArea (stateOf w b) q y)
-  written = rw g (state-area w b q y (k .area) z)
+  module _ {x : Area} (y : Area) (e : x ≡ areaRecord v q) where
+    here : areaAt (stateOf w b) q ≡ x
+    here = sym (area-kept q (k .area) e)
 
-  -- the stack has room as it had before
-  pub room : Shaped v b × (t < 16) × (threadAt (stateOf v b) t .len < 32)
-  unfolding withArea
-  room = (written .sized, k .thread, rw (written .state) (k .room))
+    written : Holds (putArea v q y) d (withArea (stateOf v d) q y)
+    written = state-area v d q y (k .area) (m .sized)
 
-  module _ (n : 0 < areaRecord w q .count) (f : y ≡ reentered x) where
-    some : 0 < x .count
-    some = rw e n
+    module _ (n : 0 < areaAt (stateOf w b) q .count) (f : y ≡ reentered x) where
+      some : 0 < x .count
+      some = rw (← here) n
 
-    pub value-open : x .generation ≡ enterValue (stateOf w b) q
-    unfolding enterValue
-    value-open = rw (here, le-leb 2 q h, lt-ltb 0 (x .count) some) refl
+      pub value-open : x .generation ≡ enterValue (stateOf w b) q
+      unfolding enterValue
+      value-open = rw (here, le-leb 2 q h, lt-ltb 0 (x .count) some) refl
 
-    pub open-holds : {v′ d : List ℕ} → Holds v′ d (pushedState (stateOf v b) t q q) → Holds v′ d (enterState (stateOf w b) t q)
-    unfolding enterState enteredArea pushedState pushed withArea
-    open-holds m = record {
-      sized = m .sized;
-      state = m .state ∙ ap (λ (r : State). pushedState r t q q) (written .state) ∙ rw (f, here, le-leb 2 q h, lt-ltb 0 (x .count) some) refl;
-    }
+      pub open-holds : Holds (putArea v q y) d (enterState (stateOf w b) t q)
+      unfolding enterState enteredArea pushedState pushed withArea withThread
+      open-holds = record {
+        sized = written .sized;
+        state = written .state ∙ ap (λ (r : State). withArea r q y) (m .state) ∙ rw (f, here, le-leb 2 q h, lt-ltb 0 (x .count) some) refl;
+      }
 
-  -- u is the parent's area
-  module _ (p : ℕ) (i : p ≡ innermost (stackAt (stateOf w b) t)) {u : Area} (n : areaRecord w q .count ≤ 0) (j : u ≡ areaRecord w p) (f : y ≡ opened x p (u .depth)) where
-    none : x .count ≤ 0
-    none = rw e n
+    -- u is the parent's area
+    module _ (p : ℕ) (i : p ≡ innermost (stackAt (stateOf w b) t)) {u : Area} (n : areaAt (stateOf w b) q .count ≤ 0) (j : u ≡ areaRecord v p) (f : y ≡ opened x p (u .depth)) where
+      none : x .count ≤ 0
+      none = rw (← here) n
 
-    parent : p < 64
-    parent = rw i (k .parent)
+      parent : p < 64
+      parent = rw i (k .parent)
 
-    pub value-fresh : y .generation ≡ enterValue (stateOf w b) q
-    unfolding enterValue
-    value-fresh = ap (λ (a : Area). a .generation) f ∙ rw (here, le-leb 2 q h, le-ltb 0 (x .count) none) refl
+      pub value-fresh : y .generation ≡ enterValue (stateOf w b) q
+      unfolding enterValue
+      value-fresh = ap (λ (a : Area). a .generation) f ∙ rw (here, le-leb 2 q h, le-ltb 0 (x .count) none) refl
 
-    -- the parent's display is as it was
-    parent-row : {v′ d : List ℕ} → Holds v′ d (pushedState (stateOf v b) t q q) → displayRow d p ≡ rowAt (stateOf w b) p
-    unfolding pushedState withArea withThread
-    parent-row {v′} {d} m =
-        sym (row-read v′ d p parent) ∙ ap (λ (r : State). rowAt r p) (m .state) ∙ ap (λ (r : State). rowAt r p) (written .state)
+      -- the parent's display is as it was
+      parent-row : displayRow d p ≡ rowAt (stateOf w b) p
+      unfolding pushedState withThread
+      parent-row = sym (row-read v d p parent) ∙ ap (λ (r : State). rowAt r p) (m .state)
 
-    pub fresh-holds : {v′ d r : List ℕ} → Holds v′ d (pushedState (stateOf v b) t q q)
-        → r ≡ putRow d q (extendedRow (displayRow d p) (u .depth) q) → Holds v′ r (enterState (stateOf w b) t q)
-    unfolding enterState enteredArea pushedState pushed withArea withRow withThread
-    fresh-holds {v′} {d} m a =
-        let l : List ℕ = extendedRow (displayRow d p) (u .depth) q in
-        let n : length l ≡ 32 = length-set (displayRow d p) (u .depth) q ∙ length-row d p in
-        let c : Holds v′ (putRow d q l) (withRow (stateOf v′ d) q l) = state-row v′ d q l (k .area) n (m .sized) in
-        let s : areaAt (stateOf w b) p ≡ u = area-read w b p parent ∙ sym j in
-        rw a (record {
-          sized = c .sized;
-          state =
-              c .state
-              ∙ ap (λ (r : State). withRow r q l) (m .state ∙ ap (λ (r : State). pushedState r t q q) (written .state))
-              ∙ rw (parent-row m, f, here, ← i, s, le-leb 2 q h, le-ltb 0 (x .count) none) refl;
-        })
+      pub fresh-holds : {r : List ℕ} → r ≡ putRow d q (extendedRow (displayRow d p) (u .depth) q) → Holds (putArea v q y) r (enterState (stateOf w b) t q)
+      unfolding enterState enteredArea pushedState pushed withArea withRow withThread
+      fresh-holds a =
+          let l : List ℕ = extendedRow (displayRow d p) (u .depth) q in
+          let n : length l ≡ 32 = length-set (displayRow d p) (u .depth) q ∙ length-row d p in
+          let c : Holds (putArea v q y) (putRow d q l) (withRow (stateOf (putArea v q y) d) q l) = state-row (putArea v q y) d q l (k .area) n (written .sized) in
+          let s : areaAt (stateOf w b) p ≡ u = sym (area-kept p parent j) in
+          rw a (record {
+            sized = c .sized;
+            state =
+                c .state
+                ∙ ap (λ (r : State). withRow r q l) (written .state ∙ ap (λ (r : State). withArea r q y) (m .state))
+                ∙ rw (parent-row, f, here, ← i, s, le-leb 2 q h, le-ltb 0 (x .count) none) refl;
+          })

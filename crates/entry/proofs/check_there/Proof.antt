@@ -2,7 +2,7 @@
 use denote.Ref.{now}
 use borrow.Author.Needs.{needs}
 use borrow.Author.Tests.{not-true, not-false}
-use Rattle.entry.specs.Enter.{not-made, no-right, others-read}
+use Rattle.entry.specs.Enter.{not-made, no-right, full, place-left}
 use Rattle.entry.proofs.check_there.Statement.{statement}
 use Rattle.entry.proofs.check_there.Tie as tie
 
@@ -10,7 +10,7 @@ returns : tie.Need-returns
 returns c =
     let o = c .before .before .before in
     let a = o .args in
-    not-made (now (a .words)) (now (a .bytes)) (a .t) (a .q) (a .inner) (o .pre .2) (c .before .before .area-at .ensures) (c .before .is-made .ensures) (not-true _ (c .if1 .taken))
+    not-made (now (a .words)) (now (a .bytes)) (a .t) (a .q) (o .pre .2) (c .before .before .area-at .ensures) (c .before .is-made .ensures) (not-true _ (c .if1 .taken))
 
 has-right-requires : tie.Need-has-right-requires
 has-right-requires c κs = let o = c .before .before .before in (o .pre .0, o .pre .1)
@@ -20,7 +20,7 @@ returns-2 c =
     let d = c .before .before in
     let o = d .before .before .before in
     let a = o .args in
-    no-right (now (a .words)) (now (a .bytes)) (a .t) (a .q) (a .inner) (o .pre .2) (d .before .before .area-at .ensures) (d .before .is-made .ensures) (not-false _ (d .if1 .left))
+    no-right (now (a .words)) (now (a .bytes)) (a .t) (a .q) (o .pre .2) (d .before .before .area-at .ensures) (d .before .is-made .ensures) (not-false _ (d .if1 .left))
     (c .before .has-right .ensures) (not-true _ (c .if2 .taken))
 
 thread-at-requires : tie.Need-thread-at-requires
@@ -28,15 +28,26 @@ thread-at-requires c κs = c .before .before .before .before .before .pre .1 .th
 
 returns-3 : tie.Need-returns-3
 returns-3 c =
-    let e = c .before .before in
+    let h = c .before .before in
+    let e = h .before in
     let d = e .before .before in
     let o = d .before .before .before in
     let a = o .args in
-    others-read (now (a .words)) (now (a .bytes)) (a .t) (a .q) (a .inner) (o .pre .2) (d .before .before .area-at .ensures) (d .before .is-made .ensures) (not-false _ (d .if1 .left))
-    (e .before .has-right .ensures) (not-false _ (e .if2 .left)) (o .pre .1 .thread) (c .before .thread-at .ensures) (c .check-entry .ensures)
+    full (now (a .words)) (now (a .bytes)) (a .t) (a .q) (o .pre .2) (d .before .before .area-at .ensures) (d .before .is-made .ensures) (not-false _ (d .if1 .left))
+    (e .before .has-right .ensures) (not-false _ (e .if2 .left)) (o .pre .1 .thread) (h .thread-at .ensures) (c .if3 .taken)
+
+returns-4 : tie.Need-returns-4
+returns-4 c =
+    let h = c .before .before in
+    let e = h .before in
+    let d = e .before .before in
+    let o = d .before .before .before in
+    let a = o .args in
+    place-left (now (a .words)) (now (a .bytes)) (a .t) (a .q) (o .pre .2) (d .before .before .area-at .ensures) (d .before .is-made .ensures) (not-false _ (d .if1 .left))
+    (e .before .has-right .ensures) (not-false _ (e .if2 .left)) (o .pre .1 .thread) (h .thread-at .ensures) (c .if3 .left)
 
 pub check-there-spec : {M : Type 1} → statement M
 check-there-spec =
     tie.close
     (tie.spec
-    (λ c κs. c .pre .2) (λ c κs. search needs) returns has-right-requires returns-2 thread-at-requires (λ c κs. search needs) returns-3)
+    (λ c κs. c .pre .2) (λ c κs. search needs) returns has-right-requires returns-2 thread-at-requires returns-3 returns-4)

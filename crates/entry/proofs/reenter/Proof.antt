@@ -1,44 +1,50 @@
--- `reenter` meets its contract: the area is written, then the stack.
+-- `reenter` meets its contract: the stack is written, then the area.
 use denote.Ref.{now}
 use borrow.Author.Needs.{needs}
+use Rattle.tables.specs.Contract.{stateIn}
 use Rattle.entry.specs.Enter.{count-room}
-use Rattle.entry.specs.Entered.{room, value-open, open-holds}
+use Rattle.entry.specs.Entered.{area-kept, value-open, open-holds}
 use Rattle.entry.proofs.reenter.Statement.{statement}
 use Rattle.entry.proofs.reenter.Tie as tie
 
-reentered-area-requires : tie.Need-reentered-area-requires
-reentered-area-requires c κs =
-    let o = c .before .before .before in
-    let a = o .args in
-    count-room (now (a .words)) (now (a .bytes)) (a .t) (a .q) (o .pre .1) (c .before .area-at .ensures)
+-- the stack is written
+abbrev start : tie.After-push → tie.Start
+start m = m .before .before .before
 
 push-requires : tie.Need-push-requires
 push-requires c κs =
-    let m = c .before .before in
-    let x = m .before .before .before in
-    let o = x .before .before in
+    let o = c .before .before in
+    (o .pre .0, o .pre .1 .thread, o .pre .1 .room)
+
+reentered-area-requires : tie.Need-reentered-area-requires
+reentered-area-requires c κs =
+    let x = c .before in
+    let m = x .before .before in
+    let o = start m in
     let a = o .args in
-    room (now (a .words)) (now (a .bytes)) (o .pre .0) (a .t) (a .q) (o .pre .1) (o .pre .2) _ (x .area-at .ensures) (m .put-area .ensures)
+    count-room (stateIn (a .words) (a .bytes)) (a .t) (a .q) (o .pre .1)
+    (area-kept (now (a .words)) (now (a .bytes)) (a .t) (a .q) (o .pre .1) (o .pre .2) (m .push .ensures) (a .q) (o .pre .1 .area) (x .area-at .ensures))
 
 returns : tie.Need-returns
 returns c =
-    let m = c .before .before .before in
-    let x = m .before .before .before in
-    let o = x .before .before in
-    let a = o .args in
-    let y = m .before .reentered-area .ensures in (
-      value-open (now (a .words)) (now (a .bytes)) (o .pre .0) (a .t) (a .q) (o .pre .1) (o .pre .2) _ (x .area-at .ensures) (m .put-area .ensures) (o .pre .3) y,
-      open-holds (now (a .words)) (now (a .bytes)) (o .pre .0) (a .t) (a .q) (o .pre .1) (o .pre .2) _ (x .area-at .ensures) (m .put-area .ensures) (o .pre .3) y (c .push .ensures),
+    let y = c .before in
+    let x = y .before .before in
+    let m = x .before .before in
+    let o = start m in
+    let a = o .args in (
+      value-open (now (a .words)) (now (a .bytes)) (a .t) (a .q) (o .pre .1) (o .pre .2) (m .push .ensures) _ (x .area-at .ensures) (o .pre .3) (y .reentered-area .ensures),
+      rw (c .put-area .ensures)
+          (open-holds (now (a .words)) (now (a .bytes)) (a .t) (a .q) (o .pre .1) (o .pre .2) (m .push .ensures) _ (x .area-at .ensures) (o .pre .3) (y .reentered-area .ensures)),
     )
 
 pub reenter-spec : {M : Type 1} → statement M
 reenter-spec =
     tie.close
     (tie.spec
-    (λ c κs. c .before .pre .1 .area)
-    reentered-area-requires
-    (λ c κs. search needs)
     (λ c. search needs)
     (λ c. search needs)
     push-requires
+    (λ c κs. start (c .before) .pre .1 .area)
+    reentered-area-requires
+    (λ c κs. search needs)
     returns)
