@@ -1,4 +1,4 @@
--- Two runs of one word in a list that overlap or meet are one run.
+-- Two runs of one word in a list that overlap or meet are one run; a word before a run may be written first.
 -- Assumes nothing.
 use Prim.Native.Nat.{ℕ, zero, suc, _+_, _-_, _≤_, _<_}
 use mathlib.Core.List.{List}
@@ -51,3 +51,10 @@ module _ (l : List ℕ) (p v : ℕ) where
       let e : p + n - k ≡ p + (n - k) = omega arith in
       let f : n - k + k ≡ n = omega arith in
       rw e (filled-joined k (n - k) k (omega arith) (omega arith)) ∙ ap (λ (i : ℕ). filled l p i v) f
+
+-- the word at p, and a run behind it
+pub filled-behind : (l : List ℕ) (p n x v : ℕ) → filled (set l p x) (p + 1) n v ≡ set (filled l (p + 1) n v) p x
+unfolding filled
+filled-behind l p zero x v = refl
+filled-behind l p (suc n) x v =
+    ap (λ (y : List ℕ). set y (p + 1 + n) v) (filled-behind l p n x v) ∙ set-comm (filled l (p + 1) n v) p (p + 1 + n) x v (λ z. omega arith)

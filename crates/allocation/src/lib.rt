@@ -17,13 +17,14 @@ ghost use Rattle.objects.specs.Stores.{storeIn, Stores};
 ghost use Rattle.objects.specs.Resolving.{Fitting};
 ghost use Rattle.allocation.specs.Allocation.{areaRest, HasRoom, MakesObject};
 
-// The words of an object of a store: its header, and 0 in its slots and its data.
+// The words of an object of a store: its header, and 0 in its slots and its data. The header is written first, so that
+// what it is made of need not be kept while the zeros are written.
 fn write_object(store: &mut [u64], at: usize, slots: u64, data_words: u64)
     requires { ⌜ (at + 1 + slots + data_words ≤ length (now store)) × (at + 1 + slots + data_words ≤ 16384) ⌝ }
     ensures { λ r. ⌜ now (store .exit) ≡ objectWords (now (store .entry)) at slots data_words ⌝ }
 {
-    zeros::zero_words(store, at + 1, (slots + data_words) as usize);
     store[at] = handle::header(slots, data_words);
+    zeros::zero_words(store, at + 1, (slots + data_words) as usize);
 }
 
 // The words of an object in the store that has an area's words.

@@ -1,7 +1,7 @@
 // The start map: bit w mod 64 of map word w / 64, read and written in place on the lent map.
 // Each function asks that its bits lie in the map: a caller has compared its length first.
 ghost use mathlib.Core.Path.{_≡_};
-ghost use Prim.Native.Nat.{_+_, _-_, _*_, _/_, _%_, _<_, _≤_, min};
+ghost use Prim.Native.Nat.{_+_, _*_, _/_, _%_, _<_, _≤_};
 ghost use lib.ListN.{length};
 ghost use Rattle.bitmap.specs.Bitmap.{bitAt, withBit, cleared};
 ghost use Rattle.bitmap.specs.Digits.{withoutDigits};
@@ -30,35 +30,30 @@ fn without_digits(x: u64, k: usize, n: usize) -> u64
     x & !(u64::MAX >> (64 - n) << k)
 }
 
-// How many of the n bits from bit w on lie in the map word of bit w.
-fn run_length(w: usize, n: usize) -> usize
-    ensures { λ r. ⌜ r ≡ min n (64 - w % 64) ⌝ }
-{
-    let room = 64 - w % 64;
-    if n < room {
-        return n;
-    }
-    room
-}
-
-// Clears the n bits from bit w on, which lie in one map word.
-fn clear_run(map: &mut [u64], w: usize, n: usize)
-    requires { ⌜ (w / 64 < length (now map)) × (0 < n) × (w % 64 + n ≤ 64) ⌝ }
+// Clears the n bits from bit w on, which lie in map word i.
+fn clear_run(map: &mut [u64], i: usize, w: usize, n: usize)
+    requires { ⌜ (i ≡ w / 64) × (i < length (now map)) × (0 < n) × (w % 64 + n ≤ 64) ⌝ }
     ensures { λ r. ⌜ now (map .exit) ≡ cleared (now (map .entry)) w n ⌝ }
 {
-    let i = w / 64;
     map[i] = without_digits(map[i], w % 64, n);
 }
 
-// Clears the n bits from bit w on, a map word at a time.
+// Clears the n bits from bit w on, a map word at a time: to the end of the word, or, in the last one, the bits that
+// are left. The two are cleared apart, since the mask of the first is the simpler one.
 pub fn clear_bits(map: &mut [u64], w: usize, n: usize)
     requires { ⌜ (w + n ≤ 64 * length (now map)) × (w + n ≤ 32768) ⌝ }
     ensures { λ r. ⌜ now (map .exit) ≡ cleared (now (map .entry)) w n ⌝ }
 {
     let mut i = 0;
+    let mut word = w / 64;
     while i < n {
-        let k = run_length(w + i, n - i);
-        clear_run(map, w + i, k);
-        i += k;
+        let room = 64 - (w + i) % 64;
+        if n - i < room {
+            clear_run(map, word, w + i, n - i);
+            return;
+        }
+        clear_run(map, word, w + i, room);
+        i += room;
+        word += 1;
     }
 }

@@ -40,14 +40,14 @@ pub stored-memory : {p′ s′ p s l : List ℕ} {a : ℕ} → StoreWritten p′
 unfolding withStore
 stored-memory z m = rw (z .permanent-is, z .scratch-is) refl
 
--- an object that is written: its words in a store, its bits in the map
-pub object-written : (l : List ℕ) (at slots dataWords : ℕ) → slots < 16384 → dataWords < 16384
-    → set (filled l (at + 1) (slots + dataWords) 0) at (headerOf (slots % 16384) (dataWords % 16384)) ≡ objectWords l at slots dataWords
+-- an object that is written: its words in a store, of which x is the header, and its bits in the map
+pub object-written : (l : List ℕ) (at slots dataWords : ℕ) {x : ℕ} → slots < 16384 → dataWords < 16384 → x ≡ headerOf (slots % 16384) (dataWords % 16384)
+    → set (filled l (at + 1) (slots + dataWords) 0) at x ≡ objectWords l at slots dataWords
 unfolding objectWords
-object-written l at slots dataWords hs hd =
+object-written l at slots dataWords hs hd e =
     let es : slots % 16384 ≡ slots = omega arith in
     let ed : dataWords % 16384 ≡ dataWords = omega arith in
-    rw (es, ed, add-one) refl
+    rw (e, es, ed, add-one) refl
 
 pub object-marked : (l : List ℕ) (bit n : ℕ) → withBit (cleared l (bit + 1) n) bit ≡ objectBits l bit n
 unfolding objectBits

@@ -1,6 +1,7 @@
--- `clear_bits` meets its contract. The invariant: the first i bits of the run are cleared, and the map keeps its length.
-use mathlib.Core.Path.{_≡_, refl, sym, _∙_}
-use Prim.Native.Nat.{_-_, _≤_}
+-- `clear_bits` meets its contract. The invariant: the first i bits of the run are cleared, the next one lies in map word `word`, and the
+-- map keeps its length.
+use mathlib.Core.Path.{_≡_, refl, ap, sym, _∙_}
+use Prim.Native.Nat.{_+_, _-_, _/_, _≤_}
 use native.Mathlib.Omega.{arith}
 use lib.ListN.{length}
 use borrow.Author.Needs.{needs}
@@ -10,29 +11,56 @@ use Rattle.bitmap.proofs.clear_bits.Statement.{statement}
 use Rattle.bitmap.proofs.clear_bits.Tie as tie
 
 abbrev Inv-loop : tie.InvT-loop
-Inv-loop map₀ w n i₀ map i = (map ≡ cleared map₀ w i) × (i ≤ n) × (length map ≡ length map₀)
+Inv-loop map₀ w n i₀ word₀ map i word = (map ≡ cleared map₀ w i) × (i ≤ n) × (word ≡ (w + i) / 64) × (length map ≡ length map₀)
 
 abbrev μ-loop : tie.MeasureT-loop
-μ-loop map₀ w n i₀ map i = n - i
+μ-loop map₀ w n i₀ word₀ map i word = n - i
 
 loop-holds : tie.Need-loop-holds Inv-loop μ-loop
 unfolding cleared
-loop-holds c = (refl, omega arith, refl)
+loop-holds c = (refl, omega arith, omega arith, refl)
 
-add-run-length : tie.Need-add-run-length Inv-loop μ-loop
-add-run-length c = omega arith
+add-room : tie.Need-add-room Inv-loop μ-loop
+add-room c = omega arith
 
-sub-run-length : tie.Need-sub-run-length Inv-loop μ-loop
-sub-run-length c = omega arith
+sub-room : tie.Need-sub-room Inv-loop μ-loop
+sub-room c = omega arith
+
+sub-if1 : tie.Need-sub-if1 Inv-loop μ-loop
+sub-if1 c = omega arith
 
 add-clear-run : tie.Need-add-clear-run Inv-loop μ-loop
 add-clear-run c = omega arith
 
+sub-clear-run : tie.Need-sub-clear-run Inv-loop μ-loop
+sub-clear-run c = omega arith
+
 clear-run-requires : tie.Need-clear-run-requires Inv-loop μ-loop
 clear-run-requires c κs = omega arith
 
+same-length : tie.Need-same-length Inv-loop μ-loop
+same-length c = c .before .before .clear-run .kept .0 ∙ c .before .before .before .before .before .before .loop .inv .3
+
+returns : tie.Need-returns Inv-loop μ-loop
+returns c =
+    let t = c .before .before .before .before .before .before in
+    let a = t .before .before .args in
+    let all : t .loop .i + (a .n - t .loop .i) ≡ a .n = omega arith in
+    c .before .before .clear-run .ensures
+    ∙ rw (t .loop .inv .0) (sym (cleared-more (a .map .now) (a .w) (t .loop .i) (a .n - t .loop .i)))
+    ∙ ap (cleared (a .map .now) (a .w)) all
+
+add-clear-run-2 : tie.Need-add-clear-run-2 Inv-loop μ-loop
+add-clear-run-2 c = omega arith
+
+clear-run-requires-2 : tie.Need-clear-run-requires-2 Inv-loop μ-loop
+clear-run-requires-2 c κs = omega arith
+
 add-i : tie.Need-add-i Inv-loop μ-loop
 add-i c = omega arith
+
+add-word : tie.Need-add-word Inv-loop μ-loop
+add-word c = omega arith
 
 loop-less : tie.Need-loop-less Inv-loop μ-loop
 loop-less c = omega arith
@@ -41,15 +69,18 @@ loop-again : tie.Need-loop-again Inv-loop μ-loop
 loop-again c =
     let t = c .before .before .before .before .before .before in
     let a = t .before .before .args in
-    let part = c .before .before .clear-run in
-    let k = c .before .before .before .before .run-length .result in
-    (part .ensures ∙ rw (t .loop .inv .0) (sym (cleared-more (a .map .now) (a .w) (t .loop .i) k)), omega arith, part .kept .0 ∙ t .loop .inv .2)
+    let part = c .before .before .clear-run2 in (
+      part .ensures ∙ rw (t .loop .inv .0) (sym (cleared-more (a .map .now) (a .w) (t .loop .i) _)),
+      omega arith,
+      omega arith,
+      part .kept .0 ∙ t .loop .inv .3,
+    )
 
-same-length : tie.Need-same-length Inv-loop μ-loop
-same-length c = c .before .loop .inv .2
+same-length-2 : tie.Need-same-length-2 Inv-loop μ-loop
+same-length-2 c = c .before .loop .inv .3
 
-returns : tie.Need-returns Inv-loop μ-loop
-returns c =
+returns-2 : tie.Need-returns-2 Inv-loop μ-loop
+returns-2 c =
     let e : c .before .loop .i ≡ c .before .before .before .args .n = omega arith in
     rw e at (c .before .loop .inv .0)
 
@@ -57,5 +88,5 @@ pub clear-bits-spec : {M : Type 1} → statement M
 clear-bits-spec =
     tie.close
     (tie.spec
-    Inv-loop μ-loop loop-holds add-run-length sub-run-length (λ c κs. search needs) add-clear-run clear-run-requires add-i loop-less
-    loop-again same-length returns)
+    Inv-loop μ-loop loop-holds add-room sub-room sub-if1 add-clear-run sub-clear-run clear-run-requires same-length returns add-clear-run-2
+    clear-run-requires-2 add-i add-word loop-less loop-again same-length-2 returns-2)
