@@ -28,16 +28,17 @@ pub fn word_at(permanent: &[u64], scratch: &[u64], area: u64, at: usize) -> u64
     permanent[at]
 }
 
-// A word into the store that has an area's words.
+// A word into the store that has an area's words. The test is that of `store_of`: the compiler then keeps the store that
+// was chosen for the look-up.
 pub fn put_word(permanent: &mut [u64], scratch: &mut [u64], area: u64, at: usize, word: u64)
     requires { ⌜ at < length (storeIn permanent scratch area) ⌝ }
     ensures { λ r. ⌜ Stores permanent scratch area (λ l. set l at word) ⌝ }
 {
-    if area < 2 {
-        permanent[at] = word;
+    if 2 <= area {
+        scratch[at] = word;
         return;
     }
-    scratch[at] = word;
+    permanent[at] = word;
 }
 
 // How many map bits come before those of the store that has an area's words: permanent words count first, then scratch words.

@@ -9,22 +9,11 @@ use Rattle.objects.specs.Stores.{stored-permanent, stored-scratch}
 use Rattle.objects.proofs.store.put_word.Statement.{statement}
 use Rattle.objects.proofs.store.put_word.Tie as tie
 
-in-permanent : (c : tie.Then1) → c .before .args .at < length (now (c .before .args .permanent))
-in-permanent c = rw (lt-leb 2 (c .before .args .area) (c .if1 .taken)) at (c .before .pre)
+in-scratch : (c : tie.Then1) → c .before .args .at < length (now (c .before .args .scratch))
+in-scratch c = rw (le-leb 2 (c .before .args .area) (c .if1 .taken)) at (c .before .pre)
 
-in-scratch : (c : tie.Else1) → c .before .args .at < length (now (c .before .args .scratch))
-in-scratch c = rw (le-leb 2 (c .before .args .area) (c .if1 .left)) at (c .before .pre)
-
-mul-permanent : tie.Need-mul-permanent
-mul-permanent c = let h = in-permanent c in search needs
-
-slice-write-permanent : tie.Need-slice-write-permanent
-slice-write-permanent c = in-permanent c
-
-returns : tie.Need-returns
-returns c =
-    let a = c .before .args in
-    stored-permanent (now (a .permanent)) (now (a .scratch)) (a .area) (λ (l : List ℕ). set l (a .at) (a .word)) (c .if1 .taken)
+in-permanent : (c : tie.Else1) → c .before .args .at < length (now (c .before .args .permanent))
+in-permanent c = rw (lt-leb 2 (c .before .args .area) (c .if1 .left)) at (c .before .pre)
 
 mul-scratch : tie.Need-mul-scratch
 mul-scratch c = let h = in-scratch c in search needs
@@ -32,14 +21,25 @@ mul-scratch c = let h = in-scratch c in search needs
 slice-write-scratch : tie.Need-slice-write-scratch
 slice-write-scratch c = in-scratch c
 
+returns : tie.Need-returns
+returns c =
+    let a = c .before .args in
+    stored-scratch (now (a .permanent)) (now (a .scratch)) (a .area) (λ (l : List ℕ). set l (a .at) (a .word)) (c .if1 .taken)
+
+mul-permanent : tie.Need-mul-permanent
+mul-permanent c = let h = in-permanent c in search needs
+
+slice-write-permanent : tie.Need-slice-write-permanent
+slice-write-permanent c = in-permanent c
+
 returns-2 : tie.Need-returns-2
 returns-2 c =
     let a = c .before .args in
-    stored-scratch (now (a .permanent)) (now (a .scratch)) (a .area) (λ (l : List ℕ). set l (a .at) (a .word)) (c .if1 .left)
+    stored-permanent (now (a .permanent)) (now (a .scratch)) (a .area) (λ (l : List ℕ). set l (a .at) (a .word)) (c .if1 .left)
 
 pub put-word-spec : {M : Type 1} → statement M
 put-word-spec =
     tie.close
     (tie.spec
-    mul-permanent slice-write-permanent (λ c. search needs) returns
-    mul-scratch slice-write-scratch (λ c. search needs) returns-2)
+    mul-scratch slice-write-scratch (λ c. search needs) returns
+    mul-permanent slice-write-permanent (λ c. search needs) returns-2)
