@@ -1,7 +1,7 @@
 // The start map: bit w mod 64 of map word w / 64, read and written in place on the lent map.
 // Each function asks that its bits lie in the map: a caller has compared its length first.
 ghost use mathlib.Core.Path.{_≡_};
-ghost use Prim.Native.Nat.{_+_, _*_, _/_, _%_, _<_, _≤_};
+ghost use Prim.Native.Nat.{_+_, _-_, _*_, _/_, _%_, _<_, _≤_};
 ghost use lib.ListN.{length};
 ghost use Rattle.bitmap.specs.Bitmap.{bitAt, withBit, cleared};
 ghost use Rattle.bitmap.specs.Digits.{withoutDigits};
@@ -38,22 +38,29 @@ fn clear_run(map: &mut [u64], i: usize, w: usize, n: usize)
     map[i] = without_digits(map[i], w % 64, n);
 }
 
-// Clears the n bits from bit w on, a map word at a time: to the end of the word, or, in the last one, the bits that
-// are left. The two are cleared apart, since the mask of the first is the simpler one.
+// How many bits the map word of bit w has from that bit on.
+fn room(w: usize) -> usize
+    ensures { λ r. ⌜ r ≡ 64 - w % 64 ⌝ }
+{
+    64 - w % 64
+}
+
+// Clears the n bits from bit w on, a map word at a time: to the end of each word, and in the last one those that are
+// left. The last is cleared apart, since its mask takes longer.
 pub fn clear_bits(map: &mut [u64], w: usize, n: usize)
     requires { ⌜ (w + n ≤ 64 * length (now map)) × (w + n ≤ 32768) ⌝ }
     ensures { λ r. ⌜ now (map .exit) ≡ cleared (now (map .entry)) w n ⌝ }
 {
+    if n == 0 {
+        return;
+    }
     let mut i = 0;
     let mut word = w / 64;
-    while i < n {
-        let room = 64 - (w + i) % 64;
-        if n - i < room {
-            clear_run(map, word, w + i, n - i);
-            return;
-        }
-        clear_run(map, word, w + i, room);
-        i += room;
+    while room(w + i) < n - i {
+        let k = room(w + i);
+        clear_run(map, word, w + i, k);
+        i += k;
         word += 1;
     }
+    clear_run(map, word, w + i, n - i);
 }

@@ -1,7 +1,7 @@
--- `clear_bits` meets its contract. The invariant: the first i bits of the run are cleared, the next one lies in map word `word`, and the
--- map keeps its length.
+-- `clear_bits` meets its contract. The invariant: the first i bits of the run are cleared and some are left, of which the first lies in map
+-- word `word`; and the map keeps its length.
 use mathlib.Core.Path.{_≡_, refl, ap, sym, _∙_}
-use Prim.Native.Nat.{_+_, _-_, _/_, _≤_}
+use Prim.Native.Nat.{_+_, _-_, _/_, _<_}
 use native.Mathlib.Omega.{arith}
 use lib.ListN.{length}
 use borrow.Author.Needs.{needs}
@@ -11,10 +11,14 @@ use Rattle.bitmap.proofs.clear_bits.Statement.{statement}
 use Rattle.bitmap.proofs.clear_bits.Tie as tie
 
 abbrev Inv-loop : tie.InvT-loop
-Inv-loop map₀ w n i₀ word₀ map i word = (map ≡ cleared map₀ w i) × (i ≤ n) × (word ≡ (w + i) / 64) × (length map ≡ length map₀)
+Inv-loop map₀ w n i₀ word₀ map i word = (map ≡ cleared map₀ w i) × (i < n) × (word ≡ (w + i) / 64) × (length map ≡ length map₀)
 
 abbrev μ-loop : tie.MeasureT-loop
 μ-loop map₀ w n i₀ word₀ map i word = n - i
+
+returns : tie.Need-returns Inv-loop μ-loop
+unfolding cleared
+returns c = rw (c .if1 .taken) refl
 
 loop-holds : tie.Need-loop-holds Inv-loop μ-loop
 unfolding cleared
@@ -23,38 +27,17 @@ loop-holds c = (refl, omega arith, omega arith, refl)
 add-room : tie.Need-add-room Inv-loop μ-loop
 add-room c = omega arith
 
-sub-room : tie.Need-sub-room Inv-loop μ-loop
-sub-room c = omega arith
+sub-if2 : tie.Need-sub-if2 Inv-loop μ-loop
+sub-if2 c = omega arith
 
-sub-if1 : tie.Need-sub-if1 Inv-loop μ-loop
-sub-if1 c = omega arith
+add-room-2 : tie.Need-add-room-2 Inv-loop μ-loop
+add-room-2 c = omega arith
 
 add-clear-run : tie.Need-add-clear-run Inv-loop μ-loop
 add-clear-run c = omega arith
 
-sub-clear-run : tie.Need-sub-clear-run Inv-loop μ-loop
-sub-clear-run c = omega arith
-
 clear-run-requires : tie.Need-clear-run-requires Inv-loop μ-loop
 clear-run-requires c κs = omega arith
-
-same-length : tie.Need-same-length Inv-loop μ-loop
-same-length c = c .before .before .clear-run .kept .0 ∙ c .before .before .before .before .before .before .loop .inv .3
-
-returns : tie.Need-returns Inv-loop μ-loop
-returns c =
-    let t = c .before .before .before .before .before .before in
-    let a = t .before .before .args in
-    let all : t .loop .i + (a .n - t .loop .i) ≡ a .n = omega arith in
-    c .before .before .clear-run .ensures
-    ∙ rw (t .loop .inv .0) (sym (cleared-more (a .map .now) (a .w) (t .loop .i) (a .n - t .loop .i)))
-    ∙ ap (cleared (a .map .now) (a .w)) all
-
-add-clear-run-2 : tie.Need-add-clear-run-2 Inv-loop μ-loop
-add-clear-run-2 c = omega arith
-
-clear-run-requires-2 : tie.Need-clear-run-requires-2 Inv-loop μ-loop
-clear-run-requires-2 c κs = omega arith
 
 add-i : tie.Need-add-i Inv-loop μ-loop
 add-i c = omega arith
@@ -67,26 +50,40 @@ loop-less c = omega arith
 
 loop-again : tie.Need-loop-again Inv-loop μ-loop
 loop-again c =
-    let t = c .before .before .before .before .before .before in
-    let a = t .before .before .args in
-    let part = c .before .before .clear-run2 in (
-      part .ensures ∙ rw (t .loop .inv .0) (sym (cleared-more (a .map .now) (a .w) (t .loop .i) _)),
+    let t = c .before .before .before .before .before .before .before in
+    let a = t .before .before .before .args in
+    let part = c .before .before .clear-run in
+    let k = c .before .before .before .before .room2 .result in (
+      part .ensures ∙ rw (t .loop .inv .0) (sym (cleared-more (a .map .now) (a .w) (t .loop .i) k)),
       omega arith,
       omega arith,
       part .kept .0 ∙ t .loop .inv .3,
     )
 
-same-length-2 : tie.Need-same-length-2 Inv-loop μ-loop
-same-length-2 c = c .before .loop .inv .3
+add-clear-run-2 : tie.Need-add-clear-run-2 Inv-loop μ-loop
+add-clear-run-2 c = omega arith
+
+sub-clear-run : tie.Need-sub-clear-run Inv-loop μ-loop
+sub-clear-run c = omega arith
+
+clear-run-requires-2 : tie.Need-clear-run-requires-2 Inv-loop μ-loop
+clear-run-requires-2 c κs = omega arith
+
+same-length : tie.Need-same-length Inv-loop μ-loop
+same-length c = c .before .before .clear-run2 .kept .0 ∙ c .before .before .before .before .before .before .loop .inv .3
 
 returns-2 : tie.Need-returns-2 Inv-loop μ-loop
 returns-2 c =
-    let e : c .before .loop .i ≡ c .before .before .before .args .n = omega arith in
-    rw e at (c .before .loop .inv .0)
+    let t = c .before .before .before .before .before .before in
+    let a = t .before .before .before .args in
+    let all : t .loop .i + (a .n - t .loop .i) ≡ a .n = omega arith in
+    c .before .before .clear-run2 .ensures
+    ∙ rw (t .loop .inv .0) (sym (cleared-more (a .map .now) (a .w) (t .loop .i) (a .n - t .loop .i)))
+    ∙ ap (cleared (a .map .now) (a .w)) all
 
 pub clear-bits-spec : {M : Type 1} → statement M
 clear-bits-spec =
     tie.close
     (tie.spec
-    Inv-loop μ-loop loop-holds add-room sub-room sub-if1 add-clear-run sub-clear-run clear-run-requires same-length returns add-clear-run-2
-    clear-run-requires-2 add-i add-word loop-less loop-again same-length-2 returns-2)
+    Inv-loop μ-loop returns loop-holds add-room (λ c κs. search needs) sub-if2 add-room-2 (λ c κs. search needs) add-clear-run
+    clear-run-requires add-i add-word loop-less loop-again add-clear-run-2 sub-clear-run clear-run-requires-2 same-length returns-2)
