@@ -13,7 +13,7 @@ ghost use Rattle.model.specs.Calls as calls;
 ghost use Rattle.tables.specs.Decode.{areaRecord, putArea, Shaped};
 ghost use Rattle.tables.specs.Contract.{stateIn, before, Leaves, Usable, Changes, Answers};
 
-// A thread that is not started has no entry, so its kind is looked at only where the stack is empty.
+// 2 and 11. A thread that is not started has no entry, so its kind is looked at only where the stack is empty.
 fn check_exit(words: &Words, bytes: &Bytes, t: u64) -> u64
     requires { ⌜ Usable words bytes ⌝ }
     ensures { λ n. ⌜ n ≡ exitRest (before words bytes) t ⌝ }
@@ -47,7 +47,7 @@ fn closed_area(x: Area) -> Area
     }
 }
 
-// A scope after another exit.
+// A scope that stays open, with one entry less.
 fn open_area(x: Area) -> Area
     requires { ⌜ 1 < x .count ⌝ }
     ensures { λ r. ⌜ r ≡ left x ⌝ }

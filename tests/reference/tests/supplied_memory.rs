@@ -174,10 +174,7 @@ fn view_is_the_data() {
     assert_eq!(bench.view(1, heap), [0; 0]);
     let supplied = &bench.machine.supplied;
     assert!(std::ptr::eq(bench.view(0, scope), &supplied.scratch[3..6]));
-    assert!(std::ptr::eq(
-        bench.view(0, heap),
-        &supplied.permanent[2..4]
-    ));
+    assert!(std::ptr::eq(bench.view(0, heap), &supplied.permanent[2..4]));
 }
 
 /// "A refusal ... alters no state and no lent word", tried on a full area.
