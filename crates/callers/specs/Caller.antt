@@ -9,7 +9,7 @@ use native.Mathlib.Omega.{arith}
 use lib.Dec.{eqb, leb}
 use lib.ListN.{length}
 use borrow.Author.Tests.{le-leb, lt-leb, lt-ltb, le-ltb, eq-eqb, ne-eqb, not-true, not-false}
-use Rattle.layout.specs.Choice.{refuse, cases}
+use Rattle.layout.specs.Choice.{refuse, refuse-first, cases}
 use Rattle.model.specs.declared.Lengths.{Lengths}
 use Rattle.model.specs.State.{State, Memory, threadAt}
 use Rattle.model.specs.Checks.{fits, isStarted, called, admit}
@@ -67,18 +67,11 @@ module _ (s : State) (t rest : ℕ) where
 
 -- ---- after refusal 2
 
--- a chain of two that refuses does so whatever follows it
-first-two : (a b : Bool) (i j rest : ℕ) → refuse a i (refuse b j 0) ≢ 0 → refuse a i (refuse b j 0) ≡ refuse a i (refuse b j rest)
-unfolding refuse
-first-two true b i j rest h = refl
-first-two false true i j rest h = refl
-first-two false false i j rest h = absurd (h refl)
-
 module _ (s : State) (t : ℕ) where
   -- n is what check_thread answers: where it refuses, the call is refused by it
   pub thread-refused : {n : ℕ} → n ≡ called s t 0 → n ≢ 0 → (rest : ℕ) → n ≡ called s t rest
   unfolding called
-  thread-refused e h rest = e ∙ first-two (leb 16 t) (not (isStarted s t)) 2 2 rest (λ z. h (e ∙ z))
+  thread-refused e h rest = e ∙ refuse-first (leb 16 t) 2 (refuse-first (not (isStarted s t)) 2 (λ z. absurd (z refl))) (λ z. h (e ∙ z))
 
   -- where it does not, there is such a thread
   pub thread-called : {n : ℕ} → n ≡ called s t 0 → n ≡ 0 → Called s t

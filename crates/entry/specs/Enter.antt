@@ -9,7 +9,7 @@ use native.Mathlib.Omega.{arith}
 use lib.Dec.{eqb, leb, ltb}
 use lib.ListN.{set}
 use borrow.Author.Tests.{le-leb, lt-leb, lt-ltb, le-ltb, eq-eqb, ne-eqb}
-use Rattle.layout.specs.Choice.{refuse, hit, skip, peel}
+use Rattle.layout.specs.Choice.{refuse, refuse-first, hit, skip, peel}
 use Rattle.rights.specs.declared.Right.the-variants.{Enter}
 use Rattle.model.specs.declared.Area.{Area}
 use Rattle.model.specs.State.{State, areaAt, threadAt, stackAt, innermost, madeAs, isMade, isScope, withThread}
@@ -79,14 +79,6 @@ module _ (x : Area) (p : ℕ) where
 
 -- ---- the refusals over the state
 
--- a chain of three that refuses does so whatever follows it
-first-three : (a b c : Bool) (rest : ℕ) → refuse a 6 (refuse b 5 (refuse c 9 0)) ≢ 0 → refuse a 6 (refuse b 5 (refuse c 9 0)) ≡ refuse a 6 (refuse b 5 (refuse c 9 rest))
-unfolding refuse
-first-three true b c rest h = refl
-first-three false true c rest h = refl
-first-three false false true rest h = refl
-first-three false false false rest h = absurd (h refl)
-
 module _ (s : State) (t q : ℕ) where
   pub enter-not-called : {n : ℕ} → n ≡ called s t 0 → n ≢ 0 → n ≡ enterRest s t q
   unfolding enterRest
@@ -95,7 +87,7 @@ module _ (s : State) (t q : ℕ) where
   -- 6, 5 and 9: where they refuse, nothing else counts; where they do not, the rest does
   there-first : thereRest s t q 0 ≢ 0 → (rest : ℕ) → thereRest s t q 0 ≡ thereRest s t q rest
   unfolding thereRest
-  there-first h rest = first-three _ _ _ rest h
+  there-first h rest = refuse-first _ 6 (refuse-first _ 5 (refuse-first _ 9 (λ z. absurd (z refl)))) h
 
   there-passed : thereRest s t q 0 ≡ 0 → (rest : ℕ) → thereRest s t q rest ≡ rest
   unfolding thereRest
