@@ -8,8 +8,9 @@ use rights::Right;
 use tables::Bytes;
 use tables::Words;
 ghost use mathlib.Core.Path.{_≡_};
-ghost use Prim.Native.Nat.{_+_, _*_, _≤_};
+ghost use Prim.Native.Nat.{_+_, _*_, _≤_, min};
 ghost use lib.ListN.{length};
+ghost use Rattle.bitmap.specs.Bitmap.{wordsHolding};
 ghost use Rattle.model.specs.Objects.{objectWords, objectBits};
 ghost use Rattle.model.specs.Calls as calls;
 ghost use Rattle.tables.specs.Contract.{stateIn, Usable, Answers};
@@ -24,7 +25,11 @@ fn write_object(store: &mut [u64], at: usize, slots: u64, data_words: u64)
     ensures { λ r. ⌜ now (store .exit) ≡ objectWords (now (store .entry)) at slots data_words ⌝ }
 {
     store[at] = handle::header(slots, data_words);
-    zeros::zero_words(store, at + 1, (slots + data_words) as usize);
+    let n = (slots + data_words) as usize;
+    if n == 0 {
+        return;
+    }
+    zeros::zero_words(store, at + 1, n);
 }
 
 // The words of an object in the store that has an area's words.
@@ -46,17 +51,29 @@ fn put_object(
     write_object(scratch, at, slots, data_words);
 }
 
-// The map bits of an object: 1 for the header, 0 for the n words after it.
-fn mark_object(map: &mut [u64], bit: usize, n: usize)
+// The map bits of an object: 1 for the header, 0 for the n words after it. All of them are cleared first, in one iteration
+// for each map word that holds them; it yields how many that were.
+fn mark_object(map: &mut [u64], bit: usize, n: usize) -> usize
     requires { ⌜ (bit + 1 + n ≤ 64 * length (now map)) × (bit + 1 + n ≤ 32768) ⌝ }
-    ensures { λ r. ⌜ now (map .exit) ≡ objectBits (now (map .entry)) bit n ⌝ }
+    ensures { λ r. ⌜ (now (map .exit) ≡ objectBits (now (map .entry)) bit n) × (r ≡ wordsHolding bit (n + 1)) ⌝ }
 {
-    bitmap::clear_bits(map, bit + 1, n);
-    bitmap::set_bit(map, bit);
+    let iterations = bitmap::clear_bits(map, bit, n + 1);
+    bitmap::set_bit(map, bit / 64, bit);
+    iterations
+}
+
+fn smaller(a: u64, b: u64) -> u64
+    ensures { λ r. ⌜ r ≡ min a b ⌝ }
+{
+    if a < b {
+        return a;
+    }
+    b
 }
 
 // Refusals 5 and 12, by whether the thread may allocate in the area, and by the area's record. No sum of
-// the fields is taken, so none can wrap.
+// the fields is taken, so none can wrap: what the slots leave of the room, if anything, is to hold the
+// header and the data.
 fn check_area(may: bool, x: Area, slots: u64, data_words: u64) -> u64
     requires { ⌜ x .used ≤ x .size ⌝ }
     ensures { λ r. ⌜ r ≡ areaRest may x slots data_words ⌝ }
@@ -65,18 +82,16 @@ fn check_area(may: bool, x: Area, slots: u64, data_words: u64) -> u64
     if !may {
         return 5;
     }
-    if room <= slots {
-        return 12; // the header and the slots alone
-    }
-    if room - slots <= data_words {
+    if room - smaller(slots, room) <= data_words {
         return 12;
     }
     0
 }
 
-// The effect of an accepted call, in area `area`, whose record is x: its used words, the object's map bits
-// and its words. Yields its handle. The area is written first: after a write to a buffer the compiler
-// could not tell that its other words are as they were read, and would write them too.
+// The effect of an accepted call, in area `area`, whose record is x: its used words, the object's words and
+// its map bits. Yields its handle. The area is written first: after a write to a buffer the compiler could not
+// tell that its other words are as they were read, and would write them too. The map bits come last, when
+// neither store is needed any more.
 fn apply_allocate(
     words: &mut Words,
     bytes: &Bytes,
@@ -104,8 +119,8 @@ fn apply_allocate(
     held_areas::put_area(words, area as usize, next);
     let at = (x.start + x.used) as usize;
     let bit = objects::bit_index(permanent.len(), area, at);
-    mark_object(map, bit, (slots + data_words) as usize);
     put_object(permanent, scratch, area, at, slots, data_words);
+    mark_object(map, bit, (slots + data_words) as usize);
     handle::pack(x.used, area, x.generation)
 }
 

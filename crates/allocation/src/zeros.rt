@@ -1,6 +1,6 @@
 // A run of zeros in a store: the slots and the data of a new object.
 ghost use mathlib.Core.Path.{_≡_};
-ghost use Prim.Native.Nat.{_+_, _≤_};
+ghost use Prim.Native.Nat.{_+_, _<_, _≤_};
 ghost use lib.ListN.{length};
 ghost use Rattle.model.specs.Objects.{filled};
 
@@ -34,10 +34,10 @@ fn zero_each(store: &mut [u64], from: usize, n: usize)
     }
 }
 
-// Any number. Up to 8 are written without that call, which takes longer than so few stores: the first four
+// Any number but 0. Up to 8 are written without that call, which takes longer than so few stores: the first four
 // and the last four, or the first two and the last two, so that a word between may be written twice.
 pub fn zero_words(store: &mut [u64], from: usize, n: usize)
-    requires { ⌜ from + n ≤ length (now store) ⌝ }
+    requires { ⌜ (0 < n) × (from + n ≤ length (now store)) ⌝ }
     ensures { λ r. ⌜ now (store .exit) ≡ filled (now (store .entry)) from n 0 ⌝ }
 {
     if 8 < n {
@@ -52,9 +52,6 @@ pub fn zero_words(store: &mut [u64], from: usize, n: usize)
     if 2 <= n {
         zero_two(store, from);
         zero_two(store, from + n - 2);
-        return;
-    }
-    if n == 0 {
         return;
     }
     store[from] = 0;

@@ -5,11 +5,11 @@ use mathlib.Core.List.{List}
 use mathlib.Core.Logic.{_⊎_, ⊎-elim, inl, inr}
 use Prim.Native.Nat.{ℕ, zero, suc, _+_, _*_, _/_, _%_, _≤_, _<_}
 use native.Mathlib.Omega.{arith}
-use mathlib.Core.Bool.{Bool, true, false}
 use lib.Dec.{eqb}
 use borrow.Author.Tests.{eqb-true, eqb-false}
 use lib.ListN.{length, getD, length-set}
 use lib.Seq.{getD-set-same, getD-set-other}
+use Rattle.layout.specs.Choice.{cases}
 use Rattle.bitmap.specs.Bitmap.{bitAt, withBit, withoutBit, cleared}
 use Rattle.bitmap.specs.Digits.{with-same, with-other, without-same, without-other}
 
@@ -23,12 +23,8 @@ length-cleared m w zero = refl
 length-cleared m w (suc n) = length-without (cleared m w n) (w + n) ∙ length-cleared m w n
 
 -- two numbers are equal or not
-same? : (a b : ℕ) → (a ≡ b) ⊎ (a ≡ b → ⊥)
-same? a b = pick (eqb a b) refl
-  where
-    pick : (t : Bool) → eqb a b ≡ t → (a ≡ b) ⊎ (a ≡ b → ⊥)
-    pick true e = inl (eqb-true a b e)
-    pick false e = inr (eqb-false a b e)
+pub same? : (a b : ℕ) → (a ≡ b) ⊎ (a ≡ b → ⊥)
+same? a b = cases (eqb a b) (λ e. inl (eqb-true a b e)) (λ e. inr (eqb-false a b e))
 
 module _ (m : List ℕ) (w : ℕ) (h : w / 64 < length m) where
   pub bit-with-same : bitAt (withBit m w) w ≡ 1

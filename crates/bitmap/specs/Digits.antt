@@ -2,11 +2,11 @@
 -- Assumes nothing.
 use mathlib.Core.Path.{_≡_, refl, sym, ap, ap₂, _∙_}
 use Prim.Native.Nat.{ℕ, zero, suc, _+_, _-_, _*_, _/_, _%_, _^_, _≤_, _<_, min}
-use native.Mathlib.Nat.{mod-eq-of-lt, mod-lt, pow-suc, one-mul, add-zero, add-suc, add-mul, add-comm, div-add-mod'}
+use native.Mathlib.Nat.{mod-eq-of-lt, mod-lt, pow-suc, one-mul, mul-assoc, add-zero, add-suc, add-mul, add-comm, div-add-mod'}
 use native.Mathlib.Numerals.{one-add, add-one}
 use native.Mathlib.Omega.{arith}
-use lib.Bits.{bitAnd, bitOr, and-step, and-high, or-add-and, and-le-l}
-use lib.Pow.{pow-pos, pow-mono, pow-lt, shl-exact, shr-shr, split, high, mod-pow-add, ones-lt, ones-split, high-ones}
+use lib.Bits.{bitAnd, bitOr, and-mask, and-high, or-add-and, or-shifted-r, and-le-l}
+use lib.Pow.{pow-pos, pow-mono, pow-lt, pow-add, shl-lt, shr-shr, shr-mod, split, high, low, mod-pow-add, ones-lt, ones-split, high-ones}
 use Rattle.bitmap.specs.Bitmap.{digit, withDigit, withoutDigit}
 
 twice : (k : ℕ) → 2 ^ suc k ≡ 2 * 2 ^ k
@@ -33,25 +33,6 @@ pub or-pow : (x k : ℕ) → bitOr x (2 ^ k) ≡ withDigit x k
 or-pow x k =
     omega (arith, or-add-and x (2 ^ k), and-pow x k, one-of (digit x k) (2 ^ k) (omega arith))
 
-mins : (a b : ℕ) → a < 2 → b < 2 → min a (1 - b) + min a b ≡ a
-mins a b ha hb = omega arith
-
-carried : (p q m n h o x : ℕ) → p + q ≡ h → m + n ≡ o → h * 2 + o ≡ x → (p * 2 + m) + (q * 2 + n) ≡ x
-carried p q m n h o x e f g = omega arith
-
--- the digits of x at the places where b has 0, and at those where it has 1, are all of x
-and-not : (n x b : ℕ) → x < 2 ^ n → b < 2 ^ n → bitAnd x (2 ^ n - 1 - b) + bitAnd x b ≡ x
-and-not zero x b hx hb =
-    let ex : x ≡ 0 = omega arith in
-    rw ex refl
-and-not (suc n) x b hx hb =
-    let t = twice n in
-    let half : (2 ^ suc n - 1 - b) / 2 ≡ 2 ^ n - 1 - b / 2 = omega arith in
-    let odd : (2 ^ suc n - 1 - b) % 2 ≡ 1 - b % 2 = omega arith in
-    let ih = and-not n (x / 2) (b / 2) (omega arith) (omega arith) in
-    ap₂ (λ (u v : ℕ). u + v) (rw (half, odd) at (and-step x (2 ^ suc n - 1 - b))) (and-step x b)
-    ∙ carried _ _ _ _ (x / 2) (x % 2) x ih (mins (x % 2) (b % 2) (omega arith) (omega arith)) (omega arith)
-
 -- the digits of x are those of x / 2, after the lowest
 digit-suc : (x k : ℕ) → digit x (suc k) ≡ digit (x / 2) k
 digit-suc x k = ap (λ (y : ℕ). y % 2) (sym (rw one-add at (shr-shr x 1 k)))
@@ -62,7 +43,7 @@ with-half x k = rw (digit-suc x k, twice k) (omega arith)
 with-odd : (x k : ℕ) → withDigit x (suc k) % 2 ≡ x % 2
 with-odd x k = rw (digit-suc x k, twice k) (omega arith)
 
-digit-le : (x k : ℕ) → digit x k * 2 ^ k ≤ x
+pub digit-le : (x k : ℕ) → digit x k * 2 ^ k ≤ x
 digit-le x k = rw (and-pow x k) at (and-le-l x (2 ^ k))
 
 without-half : (x k : ℕ) → withoutDigit x (suc k) / 2 ≡ withoutDigit (x / 2) k
@@ -107,22 +88,6 @@ digits x k n = x / 2 ^ k % 2 ^ n
 unfoldable pub withoutDigits : ℕ → ℕ → ℕ → ℕ
 withoutDigits x k n = x - digits x k n * 2 ^ k
 
--- `u64::MAX >> (64 - n)`
-ones-shr : (n : ℕ) → n ≤ 64 → (2 ^ 64 - 1) / 2 ^ (64 - n) ≡ 2 ^ n - 1
-ones-shr n h =
-    let all : n + (64 - n) ≡ 64 = omega arith in
-    rw all at (ap (λ (y : ℕ). y / 2 ^ (64 - n)) (ones-split n (64 - n)) ∙ high (2 ^ n - 1) (64 - n) (ones-lt (64 - n)))
-
--- `x & !(u64::MAX >> (64 - n) << k)`
-pub and-not-ones : (x k n : ℕ) → x < 2 ^ 64 → k + n ≤ 64
-    → bitAnd x (2 ^ 64 - 1 - (2 ^ 64 - 1) / 2 ^ (64 - n) * 2 ^ k % 2 ^ 64) ≡ withoutDigits x k n
-unfolding withoutDigits
-and-not-ones x k n hx h =
-    let fit : n + k ≤ 64 = omega arith in
-    let mask : 2 ^ (n + k) - 2 ^ k < 2 ^ 64 = omega (arith, pow-mono fit, pow-pos k) in
-    rw (ones-shr n (omega arith), shl-exact n k 64 (ones-lt n) fit, ← high-ones n k)
-    (omega (arith, and-not 64 x (2 ^ (n + k) - 2 ^ k) hx mask, and-high x n k))
-
 -- what stands above the digits, and what stands below them
 above-below : (x k n : ℕ) → withoutDigits x k n ≡ x / 2 ^ (k + n) * 2 ^ (k + n) + x % 2 ^ k
 unfolding withoutDigits
@@ -143,3 +108,40 @@ without-next x k n =
     let half = rw add-one at (shr-shr x (k + n) 1) in
     rw (above-below x k n, high (x / 2 ^ (k + n)) (k + n) below, above-below x k (suc n), add-suc k n, ← half, twice (k + n))
     (omega (arith, halved (x / 2 ^ (k + n)) (2 ^ (k + n))))
+
+-- `x & ((1 << k) - 1)`
+and-below : (x k : ℕ) → k < 64 → bitAnd x (1 * 2 ^ k % 2 ^ 64 - 1) ≡ x % 2 ^ k
+and-below x k h = rw (one-shl k h) (and-mask x k)
+
+-- `u64::MAX - 1 << e`, where j digits stand above digit e
+ones-above : (j e : ℕ) → e + j ≡ 63 → (2 ^ 64 - 1 - 1) * 2 ^ e % 2 ^ 64 ≡ 2 ^ (j + suc e) - 2 ^ suc e
+ones-above j e h =
+    let all : j + suc e ≡ 64 = omega arith in
+    let double : (2 ^ 64 - 1 - 1) * 2 ^ e ≡ (2 ^ 63 - 1) * 2 ^ suc e = omega (arith, twice e) in
+    let parts : (2 ^ 63 - 1) * 2 ^ suc e ≡ (2 ^ e - 1) * 2 ^ 64 + (2 ^ j - 1) * 2 ^ suc e =
+    ap (λ (y : ℕ). y * 2 ^ suc e) (rw h at (ones-split e j)) ∙ add-mul ((2 ^ e - 1) * 2 ^ j) (2 ^ j - 1) (2 ^ suc e)
+    ∙ rw (mul-assoc (2 ^ e - 1) (2 ^ j) (2 ^ suc e), ← pow-add 2 j (suc e), all) refl in
+    ap (λ (y : ℕ). y % 2 ^ 64) (double ∙ parts) ∙ low (2 ^ e - 1) 64 (rw all at (shl-lt j (suc e) (ones-lt j))) ∙ sym (high-ones j (suc e))
+
+-- `x & (u64::MAX - 1 << e)`
+and-above : (x e : ℕ) → x < 2 ^ 64 → e < 64 → bitAnd x ((2 ^ 64 - 1 - 1) * 2 ^ e % 2 ^ 64) ≡ x / 2 ^ suc e * 2 ^ suc e
+and-above x e hx h =
+    let all : 63 - e + suc e ≡ 64 = omega arith in
+    let fits : x < 2 ^ (63 - e + suc e) = rw all hx in
+    rw (ones-above (63 - e) e (omega arith), and-high x (63 - e) (suc e), shr-mod (63 - e) (suc e) fits) refl
+
+-- `x & ((1 << k) - 1)` where x has 64 digits
+pub rest-cleared : (x k : ℕ) → x < 2 ^ 64 → k < 64 → bitAnd x (1 * 2 ^ k % 2 ^ 64 - 1) ≡ withoutDigits x k (64 - k)
+rest-cleared x k hx h =
+    let all : k + (64 - k) ≡ 64 = omega arith in
+    and-below x k h ∙ sym (above-below x k (64 - k) ∙ rw all (omega arith))
+
+-- `x & ((1 << k) - 1) | x & (u64::MAX - 1 << e)`
+pub digits-cleared : (x k e : ℕ) → x < 2 ^ 64 → k ≤ e → e < 64
+    → bitOr (bitAnd x (1 * 2 ^ k % 2 ^ 64 - 1)) (bitAnd x ((2 ^ 64 - 1 - 1) * 2 ^ e % 2 ^ 64)) ≡ withoutDigits x k (suc e - k)
+digits-cleared x k e hx hk he =
+    let all : k + (suc e - k) ≡ suc e = omega arith in
+    let le : k ≤ suc e = omega arith in
+    let below : x % 2 ^ k < 2 ^ suc e = omega (arith, mod-lt x (pow-pos k), pow-mono le) in
+    rw (and-below x k (omega arith), and-above x e hx he, or-shifted-r (x / 2 ^ suc e) (suc e) (x % 2 ^ k) below)
+    (sym (rw all at (above-below x k (suc e - k))))

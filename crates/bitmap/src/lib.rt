@@ -1,9 +1,9 @@
 // The start map: bit w mod 64 of map word w / 64, read and written in place on the lent map.
 // Each function asks that its bits lie in the map: a caller has compared its length first.
 ghost use mathlib.Core.Path.{_≡_};
-ghost use Prim.Native.Nat.{_+_, _-_, _*_, _/_, _%_, _<_, _≤_};
+ghost use Prim.Native.Nat.{suc, _+_, _-_, _*_, _/_, _%_, _<_, _≤_};
 ghost use lib.ListN.{length};
-ghost use Rattle.bitmap.specs.Bitmap.{bitAt, withBit, cleared};
+ghost use Rattle.bitmap.specs.Bitmap.{bitAt, withBit, cleared, wordsHolding};
 ghost use Rattle.bitmap.specs.Digits.{withoutDigits};
 
 // 1 where bit w is set, else 0.
@@ -14,53 +14,52 @@ pub fn bit(map: &[u64], w: usize) -> u64
     map[w / 64] >> (w % 64) & 1
 }
 
-pub fn set_bit(map: &mut [u64], w: usize)
-    requires { ⌜ w / 64 < length (now map) ⌝ }
+// Sets bit w, which lies in map word i. The caller tells the word, so that the compiler sees where the same one was
+// written before.
+pub fn set_bit(map: &mut [u64], i: usize, w: usize)
+    requires { ⌜ (i ≡ w / 64) × (i < length (now map)) ⌝ }
     ensures { λ r. ⌜ now (map .exit) ≡ withBit (now (map .entry)) w ⌝ }
 {
-    let i = w / 64;
     map[i] = map[i] | 1 << (w % 64);
 }
 
-// x without the n binary digits from digit k on.
-fn without_digits(x: u64, k: usize, n: usize) -> u64
-    requires { ⌜ (0 < n) × (k + n ≤ 64) ⌝ }
-    ensures { λ r. ⌜ r ≡ withoutDigits x k n ⌝ }
+// x without its binary digits from digit k on.
+fn without_rest(x: u64, k: usize) -> u64
+    requires { ⌜ k < 64 ⌝ }
+    ensures { λ r. ⌜ r ≡ withoutDigits x k (64 - k) ⌝ }
 {
-    x & !(u64::MAX >> (64 - n) << k)
+    x & ((1 << k) - 1)
 }
 
-// Clears the n bits from bit w on, which lie in map word i.
-fn clear_run(map: &mut [u64], i: usize, w: usize, n: usize)
-    requires { ⌜ (i ≡ w / 64) × (i < length (now map)) × (0 < n) × (w % 64 + n ≤ 64) ⌝ }
-    ensures { λ r. ⌜ now (map .exit) ≡ cleared (now (map .entry)) w n ⌝ }
+// x without its binary digits from digit k to digit e: those below, and those above.
+fn without_digits(x: u64, k: usize, e: usize) -> u64
+    requires { ⌜ (k ≤ e) × (e < 64) ⌝ }
+    ensures { λ r. ⌜ r ≡ withoutDigits x k (suc e - k) ⌝ }
 {
-    map[i] = without_digits(map[i], w % 64, n);
+    x & ((1 << k) - 1) | x & (u64::MAX - 1 << e)
 }
 
-// How many bits the map word of bit w has from that bit on.
-fn room(w: usize) -> usize
-    ensures { λ r. ⌜ r ≡ 64 - w % 64 ⌝ }
-{
-    64 - w % 64
-}
-
-// Clears the n bits from bit w on, a map word at a time: to the end of each word, and in the last one those that are
-// left. The last is cleared apart, since its mask takes longer.
-pub fn clear_bits(map: &mut [u64], w: usize, n: usize)
+// Clears the n bits from bit w on and yields how many iterations that took ("the turns it took"): one for each map word
+// that holds them. An iteration clears, by one mask, the bits that are left of one map word: to its end or, in the last
+// one, to the last bit.
+pub fn clear_bits(map: &mut [u64], w: usize, n: usize) -> usize
     requires { ⌜ (w + n ≤ 64 * length (now map)) × (w + n ≤ 32768) ⌝ }
-    ensures { λ r. ⌜ now (map .exit) ≡ cleared (now (map .entry)) w n ⌝ }
+    ensures { λ r. ⌜ (now (map .exit) ≡ cleared (now (map .entry)) w n) × (r ≡ wordsHolding w n) ⌝ }
 {
     if n == 0 {
-        return;
+        return 0;
     }
-    let mut i = 0;
-    let mut word = w / 64;
-    while room(w + i) < n - i {
-        let k = room(w + i);
-        clear_run(map, word, w + i, k);
-        i += k;
-        word += 1;
+    let last = w + n - 1;
+    let mut first = w;
+    let mut iterations = 0;
+    loop {
+        let word = first / 64;
+        iterations += 1;
+        if word == last / 64 {
+            map[word] = without_digits(map[word], first % 64, last % 64);
+            return iterations;
+        }
+        map[word] = without_rest(map[word], first % 64);
+        first = 64 * (word + 1);
     }
-    clear_run(map, word, w + i, n - i);
 }

@@ -1,15 +1,16 @@
 -- Two stores, of which one is written: that of an area.
 -- Assumes nothing.
-use Prim.Native.Nat.{ℕ, _+_, _%_, _≤_, _<_}
+use Prim.Native.Nat.{ℕ, _+_, _*_, _%_, _≤_, _<_}
 use mathlib.Core.List.{List}
 use mathlib.Core.Path.{_≡_, refl}
 use native.Mathlib.Omega.{arith}
 use native.Mathlib.Numerals.{add-one}
-use lib.ListN.{set}
+use lib.ListN.{length, set}
 use borrow.Author.Tests.{le-leb, lt-leb}
 use Rattle.layout.specs.Choice.{pick}
 use Rattle.layout.specs.Header.{headerOf}
 use Rattle.bitmap.specs.Bitmap.{withBit, cleared}
+use Rattle.bitmap.specs.Marks.{marked-run}
 use Rattle.model.specs.State.{isScope, withStore}
 use Rattle.model.specs.Objects.{filled, objectWords, objectBits}
 use denote.Ref.{now}
@@ -49,6 +50,6 @@ object-written l at slots dataWords hs hd e =
     let ed : dataWords % 16384 ≡ dataWords = omega arith in
     rw (e, es, ed, add-one) refl
 
-pub object-marked : (l : List ℕ) (bit n : ℕ) → withBit (cleared l (bit + 1) n) bit ≡ objectBits l bit n
+pub object-marked : (l : List ℕ) (bit n : ℕ) → bit + 1 + n ≤ 64 * length l → withBit (cleared l bit (n + 1)) bit ≡ objectBits l bit n
 unfolding objectBits
-object-marked l bit n = rw add-one refl
+object-marked l bit n h = rw add-one (marked-run l bit n (omega arith))

@@ -15,12 +15,9 @@ start c = c .before .before .before .before .before .before
 abbrev memory : tie.After-put-area → Memory
 memory c = memoryIn (start c .args .permanent) (start c .args .scratch) (start c .args .map)
 
--- where the area was written, from what comes later: its bit is found, its bits are written
+-- where the area was written, from what comes later: its bit is found
 abbrev written : tie.After-bit-index → tie.After-put-area
 written c = c .before .before
-
-abbrev marked : tie.After-mark-object → tie.After-bit-index
-marked c = c .before .before
 
 -- the object ends within the words that a handle can name
 fits : (c : tie.After-put-area) → start c .args .x .start + start c .args .x .used + 1 + start c .args .slots + start c .args .data-words ≤ 16384
@@ -34,30 +31,34 @@ bit-index-requires c κs =
     let i = start (c .before) in
     bit-sum _ _ (memory (c .before)) _ _ _ _ (i .pre .0 .0) (i .pre .0 .1) (i .pre .1)
 
+put-object-requires : tie.Need-put-object-requires
+put-object-requires c κs =
+    let d = written (c .before .before) in
+    let i = start d in
+    (words-in _ _ (memory d) _ _ _ _ (i .pre .0 .0) (i .pre .0 .1) (i .pre .1), fits d)
+
+-- where its bit was found, from where its words are written
+abbrev found : tie.After-put-object → tie.After-bit-index
+found c = c .before .before .before
+
 mark-object-requires : tie.Need-mark-object-requires
 mark-object-requires c κs =
-    let b = c .before in
+    let b = found (c .before .before .before .before .before) in
     let i = start (written b) in (
       bits-in _ _ (memory (written b)) _ _ _ _ (i .pre .0 .0) (i .pre .0 .1) (i .pre .1) _ (b .bit-index .ensures),
       bits-low _ _ (memory (written b)) _ _ _ _ (i .pre .0 .0) (i .pre .0 .1) (i .pre .1) _ (b .bit-index .ensures),
     )
 
-put-object-requires : tie.Need-put-object-requires
-put-object-requires c κs =
-    let d = written (marked (c .before .before .before .before)) in
-    let i = start d in
-    (words-in _ _ (memory d) _ _ _ _ (i .pre .0 .0) (i .pre .0 .1) (i .pre .1), fits d)
-
 returns : tie.Need-returns
 returns c =
-    let l = c .before .before .before .before .before in
-    let m = l .before .before .before .before .before in
-    let b = marked m in
+    let m = c .before .before .before in
+    let l = m .before .before .before .before .before .before in
+    let b = found l in
     let p = written b in
     let i = start p in
     rw (p .put-area .ensures)
     (allocated _ _ (memory p) _ _ _ _ (i .pre .0 .0) (i .pre .0 .1) (i .pre .1) _ (b .bit-index .ensures)
-    (m .mark-object .ensures) (l .put-object .ensures) (c .pack .ensures))
+    (m .mark-object .ensures .0) (l .put-object .ensures) (c .pack .ensures))
 
 pub apply-allocate-spec : {M : Type 1} → statement M
 apply-allocate-spec =
@@ -69,9 +70,9 @@ apply-allocate-spec =
     (λ c κs. search needs)
     add-at
     bit-index-requires
+    put-object-requires
     (λ c. search needs)
     mark-object-requires
-    put-object-requires
     (λ c κs. search needs)
     (λ c. search needs)
     (λ c. search needs)

@@ -1,4 +1,4 @@
--- `mark_object` meets its contract: the bits after the header's are cleared, then the header's is set.
+-- `mark_object` meets its contract: the object's bits are cleared, then the header's is set.
 use mathlib.Core.Path.{_∙_}
 use borrow.Author.Needs.{needs}
 use denote.Ref.{now}
@@ -8,8 +8,10 @@ use Rattle.allocation.proofs.mark_object.Tie as tie
 
 returns : tie.Need-returns
 returns c =
-    let a = c .before .before .before .before .before .before .before .before .before .args in
-    c .before .before .set-bit .ensures ∙ rw (c .before .before .before .before .before .before .clear-bits .ensures) (object-marked (now (a .map)) (a .bit) (a .n))
+    let b = c .before .before .before .before .before .before in
+    let i = b .before .before .before in
+    let a = i .args in
+    (c .before .before .set-bit .ensures ∙ rw (b .clear-bits .ensures .0) (object-marked (now (a .map)) (a .bit) (a .n) (i .pre .0)), b .clear-bits .ensures .1)
 
 pub mark-object-spec : {M : Type 1} → statement M
 mark-object-spec =

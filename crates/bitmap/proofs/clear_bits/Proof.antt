@@ -1,89 +1,112 @@
--- `clear_bits` meets its contract. The invariant: the first i bits of the run are cleared and some are left, of which the first lies in map
--- word `word`; and the map keeps its length.
-use mathlib.Core.Path.{_≡_, refl, ap, sym, _∙_}
-use Prim.Native.Nat.{_+_, _-_, _/_, _<_}
+-- `clear_bits` meets its contract. The invariant: the bits before `first` are cleared and it is not past the last one; `iterations` map words
+-- came before that of `first`; and the map keeps its length.
+use mathlib.Core.Path.{_≡_, refl, ap, _∙_}
+use Prim.Native.Nat.{suc, _+_, _-_, _*_, _/_, _%_, _<_, _≤_}
 use native.Mathlib.Omega.{arith}
-use lib.ListN.{length}
+use lib.ListN.{length, length-set, set}
 use borrow.Author.Needs.{needs}
-use Rattle.bitmap.specs.Bitmap.{cleared}
-use Rattle.bitmap.specs.Runs.{cleared-more}
+use Rattle.bitmap.specs.Bitmap.{cleared, wordsHolding}
+use Rattle.bitmap.specs.Runs.{cleared-rest, cleared-last}
+use Rattle.bitmap.specs.Held.{counted}
 use Rattle.bitmap.proofs.clear_bits.Statement.{statement}
 use Rattle.bitmap.proofs.clear_bits.Tie as tie
 
 abbrev Inv-loop : tie.InvT-loop
-Inv-loop map₀ w n i₀ word₀ map i word = (map ≡ cleared map₀ w i) × (i < n) × (word ≡ (w + i) / 64) × (length map ≡ length map₀)
+Inv-loop map₀ w n last first₀ iterations₀ map first iterations =
+    (map ≡ cleared map₀ w (first - w)) × (w ≤ first) × (first ≤ last) × (w / 64 + iterations ≡ first / 64) × (length map ≡ length map₀)
 
 abbrev μ-loop : tie.MeasureT-loop
-μ-loop map₀ w n i₀ word₀ map i word = n - i
+μ-loop map₀ w n last first₀ iterations₀ map first iterations = last - first
 
 returns : tie.Need-returns Inv-loop μ-loop
-unfolding cleared
-returns c = rw (c .if1 .taken) refl
+unfolding cleared wordsHolding
+returns c = rw (c .if1 .taken) (refl, refl)
+
+add-last : tie.Need-add-last Inv-loop μ-loop
+add-last c = omega arith
+
+sub-last : tie.Need-sub-last Inv-loop μ-loop
+sub-last c = omega arith
 
 loop-holds : tie.Need-loop-holds Inv-loop μ-loop
 unfolding cleared
-loop-holds c = (refl, omega arith, omega arith, refl)
+loop-holds c =
+    let a = c .before .before .args in
+    let none : a .w - a .w ≡ 0 = omega arith in
+    (rw none refl, omega arith, omega arith, omega arith, refl)
 
-add-room : tie.Need-add-room Inv-loop μ-loop
-add-room c = omega arith
+add-iterations : tie.Need-add-iterations Inv-loop μ-loop
+add-iterations c = omega arith
 
-sub-if2 : tie.Need-sub-if2 Inv-loop μ-loop
-sub-if2 c = omega arith
+mul-without-digits : tie.Need-mul-without-digits Inv-loop μ-loop
+mul-without-digits c = omega arith
 
-add-room-2 : tie.Need-add-room-2 Inv-loop μ-loop
-add-room-2 c = omega arith
+slice-read-without-digits : tie.Need-slice-read-without-digits Inv-loop μ-loop
+slice-read-without-digits c = omega arith
 
-add-clear-run : tie.Need-add-clear-run Inv-loop μ-loop
-add-clear-run c = omega arith
+without-digits-requires : tie.Need-without-digits-requires Inv-loop μ-loop
+without-digits-requires c κs = omega arith
 
-clear-run-requires : tie.Need-clear-run-requires Inv-loop μ-loop
-clear-run-requires c κs = omega arith
+mul-map : tie.Need-mul-map Inv-loop μ-loop
+mul-map c = omega arith
 
-add-i : tie.Need-add-i Inv-loop μ-loop
-add-i c = omega arith
+slice-write-map : tie.Need-slice-write-map Inv-loop μ-loop
+slice-write-map c = omega arith
 
-add-word : tie.Need-add-word Inv-loop μ-loop
-add-word c = omega arith
+same-length : tie.Need-same-length Inv-loop μ-loop
+same-length c =
+    let l = c .before .before .before .loop in
+    length-set (l .map) (l .first / 64) _ ∙ l .inv .4
+
+returns-2 : tie.Need-returns-2 Inv-loop μ-loop
+returns-2 c =
+    let l = c .before .before .before .loop in
+    let a = c .before .before .before .before .before .before .args in (
+      ap (set (l .map) (l .first / 64)) (c .without-digits .ensures)
+          ∙ cleared-last (a .map .now) (l .map) (a .w) (l .first) (l .inv .0) (l .inv .1) (omega arith) (a .n) (l .inv .2) (c .before .before .if2 .taken) (omega arith),
+      counted (a .w) (a .n) (l .first) (l .iterations) (omega arith) (l .inv .3) (c .before .before .if2 .taken),
+    )
+
+mul-without-rest : tie.Need-mul-without-rest Inv-loop μ-loop
+mul-without-rest c = omega arith
+
+slice-read-without-rest : tie.Need-slice-read-without-rest Inv-loop μ-loop
+slice-read-without-rest c = omega arith
+
+without-rest-requires : tie.Need-without-rest-requires Inv-loop μ-loop
+without-rest-requires c κs = omega arith
+
+mul-map-2 : tie.Need-mul-map-2 Inv-loop μ-loop
+mul-map-2 c = omega arith
+
+slice-write-map-2 : tie.Need-slice-write-map-2 Inv-loop μ-loop
+slice-write-map-2 c = omega arith
+
+add-first : tie.Need-add-first Inv-loop μ-loop
+add-first c = omega arith
+
+mul-first : tie.Need-mul-first Inv-loop μ-loop
+mul-first c = omega arith
 
 loop-less : tie.Need-loop-less Inv-loop μ-loop
 loop-less c = omega arith
 
 loop-again : tie.Need-loop-again Inv-loop μ-loop
 loop-again c =
-    let t = c .before .before .before .before .before .before .before in
-    let a = t .before .before .before .args in
-    let part = c .before .before .clear-run in
-    let k = c .before .before .before .before .room2 .result in (
-      part .ensures ∙ rw (t .loop .inv .0) (sym (cleared-more (a .map .now) (a .w) (t .loop .i) k)),
+    let l = c .before .before .before .loop in
+    let a = c .before .before .before .before .before .before .args in (
+      ap (set (l .map) (l .first / 64)) (c .without-rest .ensures)
+          ∙ cleared-rest (a .map .now) (l .map) (a .w) (l .first) (l .inv .0) (l .inv .1) (omega arith),
       omega arith,
       omega arith,
-      part .kept .0 ∙ t .loop .inv .3,
+      omega arith,
+      length-set (l .map) (l .first / 64) _ ∙ l .inv .4,
     )
-
-add-clear-run-2 : tie.Need-add-clear-run-2 Inv-loop μ-loop
-add-clear-run-2 c = omega arith
-
-sub-clear-run : tie.Need-sub-clear-run Inv-loop μ-loop
-sub-clear-run c = omega arith
-
-clear-run-requires-2 : tie.Need-clear-run-requires-2 Inv-loop μ-loop
-clear-run-requires-2 c κs = omega arith
-
-same-length : tie.Need-same-length Inv-loop μ-loop
-same-length c = c .before .before .clear-run2 .kept .0 ∙ c .before .before .before .before .before .before .loop .inv .3
-
-returns-2 : tie.Need-returns-2 Inv-loop μ-loop
-returns-2 c =
-    let t = c .before .before .before .before .before .before in
-    let a = t .before .before .before .args in
-    let all : t .loop .i + (a .n - t .loop .i) ≡ a .n = omega arith in
-    c .before .before .clear-run2 .ensures
-    ∙ rw (t .loop .inv .0) (sym (cleared-more (a .map .now) (a .w) (t .loop .i) (a .n - t .loop .i)))
-    ∙ ap (cleared (a .map .now) (a .w)) all
 
 pub clear-bits-spec : {M : Type 1} → statement M
 clear-bits-spec =
     tie.close
     (tie.spec
-    Inv-loop μ-loop returns loop-holds add-room (λ c κs. search needs) sub-if2 add-room-2 (λ c κs. search needs) add-clear-run
-    clear-run-requires add-i add-word loop-less loop-again add-clear-run-2 sub-clear-run clear-run-requires-2 same-length returns-2)
+    Inv-loop μ-loop returns add-last sub-last loop-holds add-iterations mul-without-digits slice-read-without-digits
+    without-digits-requires mul-map slice-write-map same-length returns-2 mul-without-rest slice-read-without-rest without-rest-requires
+    mul-map-2 slice-write-map-2 add-first mul-first loop-less loop-again)

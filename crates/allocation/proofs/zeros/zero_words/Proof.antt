@@ -26,14 +26,7 @@ returns-3 c =
 returns-4 : tie.Need-returns-4
 unfolding filled
 returns-4 c =
-    let a = c .before .before .before .before .before .args in
-    let z : a .n ≡ 0 = omega arith in
-    rw z refl
-
-returns-5 : tie.Need-returns-5
-unfolding filled
-returns-5 c =
-    let a = c .before .before .before .before .before .args in
+    let a = c .before .before .before .before .args in
     let z : a .n ≡ 1 = omega arith in
     let e : a .from + 0 ≡ a .from = omega arith in
     rw (z, e) refl
@@ -45,5 +38,4 @@ zero-words-spec =
     (λ c κs. search needs) (λ c. search needs) (λ c. search needs)
     (λ c κs. search needs) (λ c. search needs) (λ c. search needs) (λ c κs. search needs) (λ c. search needs) returns-2
     (λ c κs. search needs) (λ c. search needs) (λ c. search needs) (λ c κs. search needs) (λ c. search needs) returns-3
-    returns-4
-    (λ c. search needs) (λ c. search needs) (λ c. search needs) returns-5)
+    (λ c. search needs) (λ c. search needs) (λ c. search needs) returns-4)
