@@ -3,5 +3,5 @@ pub mod Bitmap
 pub mod Digits
 pub mod BitmapLaws
 pub mod Runs
-pub mod Held
+pub mod MapWords
 pub mod Marks

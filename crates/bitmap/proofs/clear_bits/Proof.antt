@@ -7,7 +7,7 @@ use lib.ListN.{length, length-set, set}
 use borrow.Author.Needs.{needs}
 use Rattle.bitmap.specs.Bitmap.{cleared, wordsHolding}
 use Rattle.bitmap.specs.Runs.{cleared-rest, cleared-last}
-use Rattle.bitmap.specs.Held.{counted}
+use Rattle.bitmap.specs.MapWords.{counted}
 use Rattle.bitmap.proofs.clear_bits.Statement.{statement}
 use Rattle.bitmap.proofs.clear_bits.Tie as tie
 
