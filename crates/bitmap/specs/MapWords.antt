@@ -63,7 +63,7 @@ unfolding wordsHolding
 held-words c w zero h = none c w
 held-words c w (suc n) h = among c w n ∙ omega arith
 
--- k map words come before that of bit v, which is that of the last bit
+-- of the map words that hold a run, k come before that of bit v, and the last bit lies in that one
 pub counted : (w n v k : ℕ) → 0 < n → w / 64 + k ≡ v / 64 → v / 64 ≡ (w + n - 1) / 64 → k + 1 ≡ wordsHolding w n
 unfolding wordsHolding
 counted w zero v k h e last = absurd (omega arith)

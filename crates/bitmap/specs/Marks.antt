@@ -11,7 +11,7 @@ use Rattle.bitmap.specs.Bitmap.{digit, withDigit, withoutDigit, withBit,
 use Rattle.bitmap.specs.Digits.{with-other, without-same, without-other, digit-le}
 use Rattle.bitmap.specs.BitmapLaws.{length-cleared, same?}
 
--- a digit that is set was cleared before, or another one was
+-- a digit that is cleared and then set is set; setting one digit and clearing another may change places
 refilled : (d p x : ℕ) → d < 2 → d * p ≤ x → x - d * p + (1 - 0) * p ≡ x + (1 - d) * p
 refilled zero p x h l = omega arith
 refilled (suc zero) p x h l = omega arith
