@@ -14,8 +14,8 @@ pub fn bit(map: &[u64], w: usize) -> u64
     map[w / 64] >> (w % 64) & 1
 }
 
-// Sets bit w, which lies in map word i. The caller tells the word, so that the compiler sees where the same one was
-// written before.
+// Sets bit w, which lies in map word i. The caller tells the word, which it needs before: computed here once more, it
+// would not be kept.
 pub fn set_bit(map: &mut [u64], i: usize, w: usize)
     requires { ⌜ (i ≡ w / 64) × (i < length (now map)) ⌝ }
     ensures { λ r. ⌜ now (map .exit) ≡ withBit (now (map .entry)) w ⌝ }
