@@ -6,25 +6,28 @@ use mathlib.Core.List.{List}
 use mathlib.Core.Logic.{_≢_}
 use mathlib.Core.Path.{_≡_, refl, sym, ap, _∙_}
 use native.Mathlib.Omega.{arith}
+use native.Mathlib.Numerals.{add-one}
 use denote.Ref.{now}
 use lib.Dec.{leb, ltb}
 use lib.ListN.{length}
 use borrow.Author.Tests.{leb-true, leb-false, lt-ltb, le-ltb}
 use Rattle.layout.specs.Choice.{pick, refuse, cases}
 use Rattle.layout.specs.Handle.{handleOf}
+use Rattle.bitmap.specs.Bitmap.{cleared}
 use Rattle.rights.specs.declared.Right.the-variants.{Allocate}
 use Rattle.model.specs.declared.Area.{Area}
 use Rattle.model.specs.State.{State, Memory, areaAt, isScope, storeOf, bitIndex}
 use Rattle.model.specs.Checks.{fits, fitted, admit, hasRight}
-use Rattle.model.specs.Objects.{currentAt, allocateRest, allocateState, allocateMemory, allocateValue, objectWords, objectBits, grown}
+use Rattle.model.specs.Objects.{currentAt, allocateRest, allocateState, allocateMemory, allocateValue, objectWords, objectBits, unwrittenBits, grown}
 use Rattle.model.specs.Invariant.{Good}
 use Rattle.model.proofs.Accepted.{Admitted, allocate-ok}
 use Rattle.model.proofs.Outcomes.{fit-fitted}
 use Rattle.tables.specs.Decode.{stateOf, putArea, Holds}
 use Rattle.tables.specs.Laws.{state-area}
-use Rattle.tables.specs.Contract.{Borrowed, before, supplied, returned, Ready, memoryOf}
+use Rattle.tables.specs.Contract.{Cell, Borrowed, stateIn, memoryIn, before, supplied, returned, Ready, Usable, memoryOf}
 use Rattle.callers.specs.Caller.{caller-refused, called-rest}
 use Rattle.model.proofs.PlacedWords.{supplied-lengths}
+use Rattle.objects.specs.Fits.{fits-stores}
 use Rattle.objects.specs.Places.{AreaWords, area-words}
 use Rattle.objects.specs.Stores.{StoreWritten, stored-memory}
 
@@ -45,9 +48,14 @@ pub record ObjectMade (value : ℕ) (w b : List ℕ) (x : Memory) (s : State) (m
   pub memory-is : x ≡ allocateMemory s m a slots dataWords
 
 -- the same over what a function is lent
-abbrev pub MakesObject : ℕ → Borrowed → Borrowed → Borrowed → Borrowed → Borrowed → ℕ → ℕ → ℕ → Type 0
-MakesObject value words bytes permanent scratch map a slots dataWords =
-    ObjectMade value (now (words .exit)) (now (bytes .exit)) (returned permanent scratch map) (before words bytes) (supplied permanent scratch map) a slots dataWords
+abbrev pub MakesObject : ℕ → Borrowed → Borrowed → Borrowed → Borrowed → Borrowed → Borrowed → ℕ → ℕ → ℕ → Type 0
+MakesObject value words bytes permanent scratch map written a slots dataWords =
+    ObjectMade value (now (words .exit)) (now (bytes .exit)) (returned permanent scratch map written)
+    (before words bytes) (supplied permanent scratch map written) a slots dataWords
+
+-- what it asks: the call has passed refusal 1
+abbrev pub Lent : Cell → Cell → Cell → Cell → Cell → Cell → Type 0
+Lent words bytes permanent scratch map written = Usable words bytes × (fits (stateIn words bytes) (memoryIn permanent scratch map written) ≡ true)
 
 -- ---- the checks
 
@@ -96,7 +104,7 @@ generation-low s g a k =
 module _ (w b : List ℕ) (m : Memory) (a : ℕ) (x : Area) (slots dataWords : ℕ) (r : Ready w b) (f : fits (stateOf w b) m ≡ true)
     (k : HasRoom (stateOf w b) a x slots dataWords) where
   in-area : AreaWords (stateOf w b) m a
-  in-area = area-words (stateOf w b) m (r .good) f a (k .area)
+  in-area = area-words (stateOf w b) m (r .good) (fits-stores (stateOf w b) m f) a (k .area)
 
   start-is : x .start ≡ areaAt (stateOf w b) a .start
   start-is = ap (λ (y : Area). y .start) (k .record-is)
@@ -120,6 +128,9 @@ module _ (w b : List ℕ) (m : Memory) (a : ℕ) (x : Area) (slots dataWords : �
     pub bits-in : i + 1 + (slots + dataWords) ≤ 64 * length (m .map)
     bits-in = omega (arith, first-is, k .room, in-area .bits, start-is, size-is)
 
+    pub written-in : i + (slots + dataWords + 1) ≤ 64 * length (m .written)
+    written-in = omega (arith, bits-in, supplied-lengths (stateOf w b) m f .map, supplied-lengths (stateOf w b) m f .written)
+
     pub bits-low : i + 1 + (slots + dataWords) ≤ 32768
     bits-low = cases (leb 2 a)
         (λ e. omega (arith, (rw e at ei), words-low, in-area .first, supplied-lengths (stateOf w b) m f .permanent))
@@ -128,12 +139,12 @@ module _ (w b : List ℕ) (m : Memory) (a : ℕ) (x : Area) (slots dataWords : �
     index-is : i ≡ bitIndex (stateOf w b) a (areaAt (stateOf w b) a .used)
     index-is = first-is ∙ rw (k .record-is) refl
 
-    pub allocated : {p′ s′ m′ : List ℕ} {v : ℕ} → m′ ≡ objectBits (m .map) i (slots + dataWords)
+    pub allocated : {p′ s′ m′ x′ : List ℕ} {v : ℕ} → m′ ≡ objectBits (m .map) i (slots + dataWords) → x′ ≡ cleared (m .written) i (slots + dataWords + 1)
         → StoreWritten p′ s′ (m .permanent) (m .scratch) a (objectWords (storeOf m a) (x .start + x .used) slots dataWords)
         → v ≡ handleOf (x .used % 16384) (a % 64) (x .generation % 2 ^ 44)
-        → ObjectMade v (putArea w a (grown x (x .used + 1 + slots + dataWords))) b (memoryOf p′ s′ m′) (stateOf w b) m a slots dataWords
-    unfolding allocateValue allocateState allocateMemory
-    allocated {m′ = m′} e z v =
+        → ObjectMade v (putArea w a (grown x (x .used + 1 + slots + dataWords))) b (memoryOf p′ s′ m′ x′) (stateOf w b) m a slots dataWords
+    unfolding allocateValue allocateState allocateMemory unwrittenBits
+    allocated {m′ = m′} {x′ = x′} e c′ z v =
         let u : x .used + 1 + slots + dataWords ≡ suc (x .used + slots + dataWords) = omega arith in
         let o : x .used % 16384 ≡ x .used = omega (arith, words-low) in
         let c : a % 64 ≡ a = omega (arith, k .area) in
@@ -141,5 +152,5 @@ module _ (w b : List ℕ) (m : Memory) (a : ℕ) (x : Area) (slots dataWords : �
         record {
           value-is = v ∙ rw (o, c, g, k .record-is) refl;
           holds = rw (u, k .record-is) (state-area w b a _ (k .area) (r .sized));
-          memory-is = stored-memory z m′ ∙ rw (e, index-is, k .record-is) refl;
+          memory-is = stored-memory z m′ x′ ∙ rw (e, c′, add-one, index-is, k .record-is) refl;
         }

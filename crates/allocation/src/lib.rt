@@ -15,8 +15,7 @@ ghost use Rattle.model.specs.Objects.{objectWords, objectBits};
 ghost use Rattle.model.specs.Calls as calls;
 ghost use Rattle.tables.specs.Contract.{stateIn, Usable, Answers};
 ghost use Rattle.objects.specs.Stores.{storeIn, Stores};
-ghost use Rattle.objects.specs.Resolving.{Fitting};
-ghost use Rattle.allocation.specs.Allocation.{areaRest, HasRoom, MakesObject};
+ghost use Rattle.allocation.specs.Allocation.{areaRest, HasRoom, MakesObject, Lent};
 
 // The words of an object of a store: its header, and 0 in its slots and its data. The header is written first, so that
 // what it is made of need not be kept while the zeros are written.
@@ -98,13 +97,14 @@ fn apply_allocate(
     permanent: &mut [u64],
     scratch: &mut [u64],
     map: &mut [u64],
+    written: &mut [u64],
     area: u64,
     x: Area,
     slots: u64,
     data_words: u64,
 ) -> u64
-    requires { ⌜ Fitting words bytes permanent scratch map × HasRoom (stateIn words bytes) area x slots data_words ⌝ }
-    ensures { λ r. ⌜ MakesObject r words bytes permanent scratch map area slots data_words ⌝ }
+    requires { ⌜ Lent words bytes permanent scratch map written × HasRoom (stateIn words bytes) area x slots data_words ⌝ }
+    ensures { λ r. ⌜ MakesObject r words bytes permanent scratch map written area slots data_words ⌝ }
 {
     let used = x.used + 1 + slots + data_words;
     let next = Area {
@@ -120,7 +120,9 @@ fn apply_allocate(
     let at = (x.start + x.used) as usize;
     let bit = objects::bit_index(permanent.len(), area, at);
     put_object(permanent, scratch, area, at, slots, data_words);
-    mark_object(map, bit, (slots + data_words) as usize);
+    let n = (slots + data_words) as usize;
+    mark_object(map, bit, n);
+    bitmap::clear_bits(written, bit, n + 1);
     handle::pack(x.used, area, x.generation)
 }
 
@@ -132,14 +134,15 @@ pub fn allocate(
     permanent: &mut [u64],
     scratch: &mut [u64],
     map: &mut [u64],
+    written: &mut [u64],
     t: u64,
     slots: u64,
     data_words: u64,
 ) -> Answer
     requires { ⌜ Usable words bytes ⌝ }
-    ensures { λ r. ⌜ Answers r words bytes permanent scratch map (calls.allocate t slots data_words) ⌝ }
+    ensures { λ r. ⌜ Answers r words bytes permanent scratch map written (calls.allocate t slots data_words) ⌝ }
 {
-    let status = callers::check_caller(words, bytes, permanent, scratch, map, t);
+    let status = callers::check_caller(words, bytes, permanent, scratch, map, written, t);
     if status != 0 {
         return Answer { status, value: 0 };
     }
@@ -159,6 +162,7 @@ pub fn allocate(
         permanent,
         scratch,
         map,
+        written,
         area,
         x,
         slots,

@@ -86,14 +86,15 @@ pub fn make(
     permanent: &[u64],
     scratch: &[u64],
     map: &[u64],
+    written: &[u64],
     t: u64,
     q: u64,
     r: u64,
 ) -> Answer
     requires { ⌜ Usable words bytes ⌝ }
-    ensures { λ a. ⌜ Answers a words bytes permanent scratch map (calls.make t q r) ⌝ }
+    ensures { λ a. ⌜ Answers a words bytes permanent scratch map written (calls.make t q r) ⌝ }
 {
-    let fit = callers::lengths_fit(words, bytes, permanent, scratch, map);
+    let fit = callers::lengths_fit(words, bytes, permanent, scratch, map, written);
     if !fit {
         return Answer {
             status: 1,

@@ -1,4 +1,4 @@
-// The start map: bit w mod 64 of map word w / 64, read and written in place on the lent map.
+// The start map and the written map: bit w mod 64 of map word w / 64, read and written in place on the lent map.
 // Each function asks that its bits lie in the map: a caller has compared its length first.
 ghost use mathlib.Core.Path.{_≡_};
 ghost use Prim.Native.Nat.{suc, _+_, _-_, _*_, _/_, _%_, _<_, _≤_};
@@ -20,7 +20,8 @@ pub fn set_bit(map: &mut [u64], i: usize, w: usize)
     requires { ⌜ (i ≡ w / 64) × (i < length (now map)) ⌝ }
     ensures { λ r. ⌜ now (map .exit) ≡ withBit (now (map .entry)) w ⌝ }
 {
-    map[i] = map[i] | 1 << (w % 64);
+    let digit = 1 << (w % 64);
+    map[i] = map[i] | digit;
 }
 
 // x without its binary digits from digit k on.
@@ -39,9 +40,9 @@ fn without_digits(x: u64, k: usize, e: usize) -> u64
     x & ((1 << k) - 1) | x & (u64::MAX - 1 << e)
 }
 
-// Clears the n bits from bit w on and yields how many iterations that took ("the turns it took"): one for each map word
-// that holds them. An iteration clears, by one mask, the bits that are left of one map word: to its end or, in the last
-// one, to the last bit.
+// Clears the n bits from bit w on and yields in how many turns: one for each map word that holds them. A turn clears, by
+// one mask, the bits that are left of one map word: to its end or, in the last one, to the last bit. Bits that lie in
+// one map word are cleared before the loop: where two maps are cleared at the same place, the two tests become one.
 pub fn clear_bits(map: &mut [u64], w: usize, n: usize) -> usize
     requires { ⌜ (w + n ≤ 64 * length (now map)) × (w + n ≤ 32768) ⌝ }
     ensures { λ r. ⌜ (now (map .exit) ≡ cleared (now (map .entry)) w n) × (r ≡ wordsHolding w n) ⌝ }
@@ -50,6 +51,10 @@ pub fn clear_bits(map: &mut [u64], w: usize, n: usize) -> usize
         return 0;
     }
     let last = w + n - 1;
+    if w / 64 == last / 64 {
+        map[w / 64] = without_digits(map[w / 64], w % 64, last % 64);
+        return 1;
+    }
     let mut first = w;
     let mut iterations = 0;
     loop {

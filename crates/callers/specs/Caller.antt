@@ -1,7 +1,7 @@
 -- Refusals 1 and 2: one law for each way that the checks end, and how a call goes on after them.
 -- Assumes nothing.
 use mathlib.Core.Path.{_≡_, refl, ap, sym, _∙_}
-use mathlib.Core.Bool.{Bool, true, false, not}
+use mathlib.Core.Bool.{Bool, true, false, not, _&&_}
 use mathlib.Core.Logic.{_≢_}
 use mathlib.Core.List.{List}
 use Prim.Native.Nat.{ℕ, _≤_, _<_}
@@ -18,7 +18,7 @@ use Rattle.model.proofs.Outcomes.{unfit-fitted, fit-fitted}
 use Rattle.tables.specs.Decode.{stateOf, lengthsRecord}
 use Rattle.tables.specs.Laws.{lengths-read}
 
--- ---- the three lengths, where o, n and k are those of set-up, read for each test
+-- ---- the four lengths, where o, n, k and j are those of set-up, read for each test
 
 module _ (w b : List ℕ) (m : Memory) (o : Lengths) (e : o ≡ lengthsRecord w) where
   own : stateOf w b .lengths ≡ o
@@ -36,11 +36,21 @@ module _ (w b : List ℕ) (m : Memory) (o : Lengths) (e : o ≡ lengthsRecord w)
     unfolding fits
     other-scratch h = rw (own, eq-eqb (length (m .permanent)) (o .permanent) p, ne-eqb (length (m .scratch)) (o .scratch) (λ z. h (z ∙ sym same)))
 
-    pub by-map : (k : Lengths) → k ≡ lengthsRecord w → length (m .scratch) ≡ n .scratch → eqb (length (m .map)) (k .map) ≡ fits (stateOf w b) m
-    unfolding fits
-    by-map k g h =
-        ap (λ (l : Lengths). eqb (length (m .map)) (l .map)) (g ∙ sym e)
-        ∙ rw (own, eq-eqb (length (m .permanent)) (o .permanent) p, eq-eqb (length (m .scratch)) (o .scratch) (h ∙ same)) refl
+    module _ (s : length (m .scratch) ≡ n .scratch) (k : Lengths) (g : k ≡ lengthsRecord w) where
+      -- the stores fit
+      past-stores : fits (stateOf w b) m ≡ eqb (length (m .map)) (k .map) && eqb (length (m .written)) (k .map)
+      unfolding fits
+      past-stores =
+          rw (own, eq-eqb (length (m .permanent)) (o .permanent) p, eq-eqb (length (m .scratch)) (o .scratch) (s ∙ same))
+          (ap (λ (l : Lengths). eqb (length (m .map)) (l .map) && eqb (length (m .written)) (l .map)) (e ∙ sym g))
+
+      pub other-map : length (m .map) ≢ k .map → false ≡ fits (stateOf w b) m
+      other-map h = sym (past-stores ∙ rw (ne-eqb (length (m .map)) (k .map) h) refl)
+
+      pub by-written : length (m .map) ≡ k .map → (j : Lengths) → j ≡ lengthsRecord w → eqb (length (m .written)) (j .map) ≡ fits (stateOf w b) m
+      by-written h j i =
+          ap (λ (l : Lengths). eqb (length (m .written)) (l .map)) (i ∙ sym g)
+          ∙ sym (past-stores ∙ rw (eq-eqb (length (m .map)) (k .map) h) refl)
 
 -- r is what lengths_fit answers
 module _ (s : State) (m : Memory) {r : Bool} (e : r ≡ fits s m) where

@@ -13,8 +13,9 @@ pub fn lengths_fit(
     permanent: &[u64],
     scratch: &[u64],
     map: &[u64],
+    written: &[u64],
 ) -> bool
-    ensures { λ r. ⌜ r ≡ fits (before words bytes) (supplied permanent scratch map) ⌝ }
+    ensures { λ r. ⌜ r ≡ fits (before words bytes) (supplied permanent scratch map written) ⌝ }
 {
     if permanent.len() as u64 != held_lengths::lengths_at(words).permanent {
         return false;
@@ -22,7 +23,10 @@ pub fn lengths_fit(
     if scratch.len() as u64 != held_lengths::lengths_at(words).scratch {
         return false;
     }
-    map.len() as u64 == held_lengths::lengths_at(words).map
+    if map.len() as u64 != held_lengths::lengths_at(words).map {
+        return false;
+    }
+    written.len() as u64 == held_lengths::lengths_at(words).map
 }
 
 // Refusal 2, for every call but op 01, whose thread is not started yet.
@@ -45,11 +49,12 @@ pub fn check_caller(
     permanent: &[u64],
     scratch: &[u64],
     map: &[u64],
+    written: &[u64],
     t: u64,
 ) -> u64
-    ensures { λ r. ⌜ r ≡ admit (before words bytes) (supplied permanent scratch map) t 0 ⌝ }
+    ensures { λ r. ⌜ r ≡ admit (before words bytes) (supplied permanent scratch map written) t 0 ⌝ }
 {
-    let fit = lengths_fit(words, bytes, permanent, scratch, map);
+    let fit = lengths_fit(words, bytes, permanent, scratch, map, written);
     if !fit {
         return 1;
     }

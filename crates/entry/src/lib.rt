@@ -230,13 +230,14 @@ pub fn enter(
     permanent: &[u64],
     scratch: &[u64],
     map: &[u64],
+    written: &[u64],
     t: u64,
     q: u64,
 ) -> Answer
     requires { ⌜ Usable words bytes ⌝ }
-    ensures { λ r. ⌜ Answers r words bytes permanent scratch map (calls.enter t q) ⌝ }
+    ensures { λ r. ⌜ Answers r words bytes permanent scratch map written (calls.enter t q) ⌝ }
 {
-    let fit = callers::lengths_fit(words, bytes, permanent, scratch, map);
+    let fit = callers::lengths_fit(words, bytes, permanent, scratch, map, written);
     if !fit {
         return Answer {
             status: 1,

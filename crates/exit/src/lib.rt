@@ -128,12 +128,13 @@ pub fn exit(
     permanent: &[u64],
     scratch: &[u64],
     map: &[u64],
+    written: &[u64],
     t: u64,
 ) -> Answer
     requires { ⌜ Usable words bytes ⌝ }
-    ensures { λ r. ⌜ Answers r words bytes permanent scratch map (calls.exit t) ⌝ }
+    ensures { λ r. ⌜ Answers r words bytes permanent scratch map written (calls.exit t) ⌝ }
 {
-    let fit = callers::lengths_fit(words, bytes, permanent, scratch, map);
+    let fit = callers::lengths_fit(words, bytes, permanent, scratch, map, written);
     if !fit {
         return Answer {
             status: 1,

@@ -6,6 +6,6 @@ use Rattle.reader.specs.Clauses.{coreIn, coreOut}
 use Rattle.frames.specs.declared.Ended.{Ended}
 use Rattle.frames.specs.Progress.{Ran}
 
-abbrev pub AllAnswered : (words bytes permanent scratch map input output : Borrowed) → Ended → Type 0
-AllAnswered words bytes permanent scratch map input output e =
-    Ran (coreIn words bytes permanent scratch map) (coreOut words bytes permanent scratch map) (now (input .exit)) (now (output .exit)) e
+abbrev pub AllAnswered : (words bytes permanent scratch map written input output : Borrowed) → Ended → Type 0
+AllAnswered words bytes permanent scratch map written input output e =
+    Ran (coreIn words bytes permanent scratch map written) (coreOut words bytes permanent scratch map written) (now (input .exit)) (now (output .exit)) e

@@ -50,12 +50,13 @@ fn answer_all(
     permanent: &mut [u64],
     scratch: &mut [u64],
     map: &mut [u64],
+    written: &mut [u64],
     input: &mut [u8],
     output: &mut Output,
 ) -> Ended
     requires lent { ⌜ (Ready (now words) (now bytes)) × (length (now input) ≡ 16384) × (19 * length (now input) ≤ length (now output)) ⌝ }
-    requires first { ⌜ Represents (core (now words) (now bytes) (now permanent) (now scratch) (now map)) firstWorld ⌝ }
-    ensures { λ r. ⌜ AllAnswered words bytes permanent scratch map input output r ⌝ }
+    requires first { ⌜ Represents (core (now words) (now bytes) (now permanent) (now scratch) (now map) (now written)) firstWorld ⌝ }
+    ensures { λ r. ⌜ AllAnswered words bytes permanent scratch map written input output r ⌝ }
 {
     let mut line = [0u8; 40];
     let mut len = 0;
@@ -70,6 +71,7 @@ fn answer_all(
             permanent,
             scratch,
             map,
+            written,
             &mut line,
             len,
             input,
@@ -95,6 +97,7 @@ fn answer_all(
         permanent,
         scratch,
         map,
+        written,
         &line,
         len,
         output,
@@ -141,12 +144,19 @@ fn start_map() -> [u64; 96]
     [0; 96]
 }
 
+fn written_map() -> [u64; 96]
+    ensures { λ r. ⌜ r ≡ replicate 96 0 ⌝ }
+{
+    [0; 96]
+}
+
 // The whole run, over buffers of its own.
 fn run() {
     let mut permanent = permanent_store();
     let mut scratch = scratch_store();
     let mut map = start_map();
-    let begun = setup::set_up(&permanent, &scratch, &map, 1024, 1024);
+    let mut written = written_map();
+    let begun = setup::set_up(&permanent, &scratch, &map, &written, 1024, 1024);
     let mut words = begun.words;
     let mut bytes = begun.bytes;
     let mut input = input_buffer();
@@ -157,6 +167,7 @@ fn run() {
         &mut permanent,
         &mut scratch,
         &mut map,
+        &mut written,
         &mut input,
         &mut output,
     );

@@ -18,14 +18,25 @@ pub extern "C" fn scopes_allocate(
     permanent: &mut [u64],
     scratch: &mut [u64],
     map: &mut [u64],
+    written: &mut [u64],
     t: u64,
     slots: u64,
     data_words: u64,
 ) -> Answer
     requires { ⌜ Usable words bytes ⌝ }
-    ensures { λ r. ⌜ Answers r words bytes permanent scratch map (calls.allocate t slots data_words) ⌝ }
+    ensures { λ r. ⌜ Answers r words bytes permanent scratch map written (calls.allocate t slots data_words) ⌝ }
 {
-    allocation::allocate(words, bytes, permanent, scratch, map, t, slots, data_words)
+    allocation::allocate(
+        words,
+        bytes,
+        permanent,
+        scratch,
+        map,
+        written,
+        t,
+        slots,
+        data_words,
+    )
 }
 
 // Op 07: a reference to a target, or null, is stored in a slot of an object.
@@ -36,13 +47,14 @@ pub extern "C" fn scopes_store(
     permanent: &mut [u64],
     scratch: &mut [u64],
     map: &[u64],
+    written: &[u64],
     t: u64,
     object: u64,
     slot: u64,
     target: u64,
 ) -> Answer
     requires { ⌜ Usable words bytes ⌝ }
-    ensures { λ r. ⌜ Answers r words bytes permanent scratch map (calls.store t object slot target) ⌝ }
+    ensures { λ r. ⌜ Answers r words bytes permanent scratch map written (calls.store t object slot target) ⌝ }
 {
     references::store(
         words,
@@ -50,6 +62,7 @@ pub extern "C" fn scopes_store(
         permanent,
         scratch,
         map,
+        written,
         t,
         object,
         slot,
@@ -65,14 +78,25 @@ pub extern "C" fn scopes_load<'a>(
     permanent: &'a [u64],
     scratch: &'a [u64],
     map: &[u64],
+    written: &[u64],
     t: u64,
     object: u64,
     slot: u64,
 ) -> Answer
     requires { ⌜ Usable words bytes ⌝ }
-    ensures { λ r. ⌜ Answers r words bytes permanent scratch map (calls.load t object slot) ⌝ }
+    ensures { λ r. ⌜ Answers r words bytes permanent scratch map written (calls.load t object slot) ⌝ }
 {
-    references::load(words, bytes, permanent, scratch, map, t, object, slot)
+    references::load(
+        words,
+        bytes,
+        permanent,
+        scratch,
+        map,
+        written,
+        t,
+        object,
+        slot,
+    )
 }
 
 // Op 09: a data word of an object is written.
@@ -83,13 +107,14 @@ pub extern "C" fn scopes_write(
     permanent: &mut [u64],
     scratch: &mut [u64],
     map: &[u64],
+    written: &mut [u64],
     t: u64,
     object: u64,
     index: u64,
     word: u64,
 ) -> Answer
     requires { ⌜ Usable words bytes ⌝ }
-    ensures { λ r. ⌜ Answers r words bytes permanent scratch map (calls.write t object index word) ⌝ }
+    ensures { λ r. ⌜ Answers r words bytes permanent scratch map written (calls.write t object index word) ⌝ }
 {
     data::write(
         words,
@@ -97,6 +122,7 @@ pub extern "C" fn scopes_write(
         permanent,
         scratch,
         map,
+        written,
         t,
         object,
         index,
@@ -112,14 +138,25 @@ pub extern "C" fn scopes_read<'a>(
     permanent: &'a [u64],
     scratch: &'a [u64],
     map: &[u64],
+    written: &[u64],
     t: u64,
     object: u64,
     index: u64,
 ) -> Answer
     requires { ⌜ Usable words bytes ⌝ }
-    ensures { λ r. ⌜ Answers r words bytes permanent scratch map (calls.read t object index) ⌝ }
+    ensures { λ r. ⌜ Answers r words bytes permanent scratch map written (calls.read t object index) ⌝ }
 {
-    data::read(words, bytes, permanent, scratch, map, t, object, index)
+    data::read(
+        words,
+        bytes,
+        permanent,
+        scratch,
+        map,
+        written,
+        t,
+        object,
+        index,
+    )
 }
 
 // The status of showing an object's data.
@@ -130,13 +167,14 @@ pub extern "C" fn scopes_view_status<'a>(
     permanent: &'a [u64],
     scratch: &'a [u64],
     map: &[u64],
+    written: &[u64],
     t: u64,
     object: u64,
 ) -> Answer
     requires { ⌜ Usable words bytes ⌝ }
-    ensures { λ r. ⌜ Answers r words bytes permanent scratch map (calls.viewStatus t object) ⌝ }
+    ensures { λ r. ⌜ Answers r words bytes permanent scratch map written (calls.viewStatus t object) ⌝ }
 {
-    views::view_status(words, bytes, permanent, scratch, map, t, object)
+    views::view_status(words, bytes, permanent, scratch, map, written, t, object)
 }
 
 // Where its data lie: a store, the first word and how many; what `views::view` shows.
@@ -147,12 +185,13 @@ pub extern "C" fn scopes_view_place<'a>(
     permanent: &'a [u64],
     scratch: &'a [u64],
     map: &[u64],
+    written: &[u64],
     t: u64,
     object: u64,
 ) -> ViewPlace
     requires { ⌜ Usable words bytes ⌝ }
-    ensures place { λ r. ⌜ r ≡ viewPlaceOf (before words bytes) (supplied permanent scratch map) t object ⌝ }
-    ensures answers { λ r. ⌜ PlaceAnswers r words bytes permanent scratch map t object ⌝ }
+    ensures place { λ r. ⌜ r ≡ viewPlaceOf (before words bytes) (supplied permanent scratch map written) t object ⌝ }
+    ensures answers { λ r. ⌜ PlaceAnswers r words bytes permanent scratch map written t object ⌝ }
 {
-    views::view_place(words, bytes, permanent, scratch, map, t, object)
+    views::view_place(words, bytes, permanent, scratch, map, written, t, object)
 }

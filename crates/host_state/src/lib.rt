@@ -1,7 +1,7 @@
 // The core for C and Rust, first part: set-up, and ops 01 to 05: threads start and end, scopes are made,
 // entered and left. One exported function for each call, thin over the crate that has it.
 //
-// The host keeps the two tables of the state, `words` and `bytes`, and the three buffers, and lends
+// The host keeps the two tables of the state, `words` and `bytes`, and the four buffers, and lends
 // them to each call. Beside that a call asks one thing, `Usable`: that the tables are those that
 // set-up gave and that calls alone have changed since. Every call leaves it for the next. What the
 // buffers hold is free. What a call answers and leaves is the one contract of any call, `Answers`.
@@ -9,7 +9,6 @@ use layout::answer::Answer;
 use setup::SetUp;
 use tables::Bytes;
 use tables::Words;
-ghost use Rattle.model.specs.SetUp.{lengthsOf};
 ghost use Rattle.model.specs.Calls as calls;
 ghost use Rattle.tables.specs.Contract.{supplied, Usable, Answers};
 ghost use Rattle.setup.specs.First.{Begun};
@@ -20,12 +19,13 @@ pub extern "C" fn scopes_set_up(
     permanent: &[u64],
     scratch: &[u64],
     map: &[u64],
+    written: &[u64],
     h: u64,
     i: u64,
 ) -> SetUp
-    ensures { λ r. ⌜ Begun (r .status) (r .words) (r .bytes) h i (lengthsOf (supplied permanent scratch map)) ⌝ }
+    ensures { λ r. ⌜ Begun (r .status) (r .words) (r .bytes) h i (supplied permanent scratch map written) ⌝ }
 {
-    setup::set_up(permanent, scratch, map, h, i)
+    setup::set_up(permanent, scratch, map, written, h, i)
 }
 
 // Set-up in place: the host's own tables, whatever they held. The answer is the status.
@@ -36,12 +36,13 @@ pub extern "C" fn scopes_set_up_in_place(
     permanent: &[u64],
     scratch: &[u64],
     map: &[u64],
+    written: &[u64],
     h: u64,
     i: u64,
 ) -> u64
-    ensures { λ r. ⌜ Begun r (now (words .exit)) (now (bytes .exit)) h i (lengthsOf (supplied permanent scratch map)) ⌝ }
+    ensures { λ r. ⌜ Begun r (now (words .exit)) (now (bytes .exit)) h i (supplied permanent scratch map written) ⌝ }
 {
-    setup::set_up_in_place(words, bytes, permanent, scratch, map, h, i)
+    setup::set_up_in_place(words, bytes, permanent, scratch, map, written, h, i)
 }
 
 // Op 01: thread t starts, of a kind.
@@ -52,13 +53,14 @@ pub extern "C" fn scopes_start(
     permanent: &[u64],
     scratch: &[u64],
     map: &[u64],
+    written: &[u64],
     t: u64,
     kind: u64,
 ) -> Answer
     requires { ⌜ Usable words bytes ⌝ }
-    ensures { λ r. ⌜ Answers r words bytes permanent scratch map (calls.start t kind) ⌝ }
+    ensures { λ r. ⌜ Answers r words bytes permanent scratch map written (calls.start t kind) ⌝ }
 {
-    threads::start(words, bytes, permanent, scratch, map, t, kind)
+    threads::start(words, bytes, permanent, scratch, map, written, t, kind)
 }
 
 // Op 02: thread t ends.
@@ -69,12 +71,13 @@ pub extern "C" fn scopes_end(
     permanent: &[u64],
     scratch: &[u64],
     map: &[u64],
+    written: &[u64],
     t: u64,
 ) -> Answer
     requires { ⌜ Usable words bytes ⌝ }
-    ensures { λ r. ⌜ Answers r words bytes permanent scratch map (calls.end t) ⌝ }
+    ensures { λ r. ⌜ Answers r words bytes permanent scratch map written (calls.end t) ⌝ }
 {
-    threads::end(words, bytes, permanent, scratch, map, t)
+    threads::end(words, bytes, permanent, scratch, map, written, t)
 }
 
 // Op 03: a scope is made, of a size in words.
@@ -85,14 +88,25 @@ pub extern "C" fn scopes_make(
     permanent: &[u64],
     scratch: &[u64],
     map: &[u64],
+    written: &[u64],
     t: u64,
     area: u64,
     size: u64,
 ) -> Answer
     requires { ⌜ Usable words bytes ⌝ }
-    ensures { λ r. ⌜ Answers r words bytes permanent scratch map (calls.make t area size) ⌝ }
+    ensures { λ r. ⌜ Answers r words bytes permanent scratch map written (calls.make t area size) ⌝ }
 {
-    areas::make::make(words, bytes, permanent, scratch, map, t, area, size)
+    areas::make::make(
+        words,
+        bytes,
+        permanent,
+        scratch,
+        map,
+        written,
+        t,
+        area,
+        size,
+    )
 }
 
 // Op 04: an area is entered; the value is its generation.
@@ -103,13 +117,14 @@ pub extern "C" fn scopes_enter(
     permanent: &[u64],
     scratch: &[u64],
     map: &[u64],
+    written: &[u64],
     t: u64,
     area: u64,
 ) -> Answer
     requires { ⌜ Usable words bytes ⌝ }
-    ensures { λ r. ⌜ Answers r words bytes permanent scratch map (calls.enter t area) ⌝ }
+    ensures { λ r. ⌜ Answers r words bytes permanent scratch map written (calls.enter t area) ⌝ }
 {
-    entry::enter(words, bytes, permanent, scratch, map, t, area)
+    entry::enter(words, bytes, permanent, scratch, map, written, t, area)
 }
 
 // Op 05: the current area is left; the value is the count that is left of a scope, else 0.
@@ -120,10 +135,11 @@ pub extern "C" fn scopes_exit(
     permanent: &[u64],
     scratch: &[u64],
     map: &[u64],
+    written: &[u64],
     t: u64,
 ) -> Answer
     requires { ⌜ Usable words bytes ⌝ }
-    ensures { λ r. ⌜ Answers r words bytes permanent scratch map (calls.exit t) ⌝ }
+    ensures { λ r. ⌜ Answers r words bytes permanent scratch map written (calls.exit t) ⌝ }
 {
-    exit::exit(words, bytes, permanent, scratch, map, t)
+    exit::exit(words, bytes, permanent, scratch, map, written, t)
 }

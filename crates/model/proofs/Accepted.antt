@@ -216,17 +216,17 @@ module _ (s : State) (m : Memory) (t : ℕ) where
       let d = peel _ _ _ (c .1) in
       record { at = a .0; target = not-false (isReference s m r) (b .0); rule = not-false (eqb r null || mayRefer s (areaOf p) (areaOf r)) (d .0) }
 
-  -- ops 09 and 0a
+  -- ops 09 and 0a as far as the data word
   pub record DataOk (p q : ℕ) : Type 0 where
     pub used : UseOk p
     pub index : q < dataOf (headerAt s m p)
 
-  pub data-ok : (p q : ℕ) → dataRest s m t p q ≡ 0 → DataOk p q
+  pub data-ok : (p q rest : ℕ) → dataRest s m t p q rest ≡ 0 → DataOk p q × (rest ≡ 0)
   unfolding dataRest
-  data-ok p q e =
+  data-ok p q rest e =
       let a = use-ok p _ e in
       let b = peel _ _ _ (a .1) in
-      record { used = a .0; index = omega (arith, leb-false) }
+      (record { used = a .0; index = omega (arith, leb-false) }, b .1)
 
 -- ---- the load of a rights table: its text may be loaded
 

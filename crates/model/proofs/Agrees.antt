@@ -1,7 +1,6 @@
 -- The history follows the state: set-up leaves both alike, and so does every accepted call.
 -- Assumes nothing.
 use Prim.Native.Nat.{ℕ, suc, _≤_, _<_}
-use mathlib.Core.Bool.{Bool, true, false}
 use mathlib.Core.List.{List, [], _∷_}
 use mathlib.Core.Path.{_≡_, refl, sym, ap, _∙_}
 use mathlib.Core.Logic.{_≢_}
@@ -9,13 +8,12 @@ use lib.ListN.{length, getD, set, replicate, length-replicate, getD-replicate, L
 use lib.Dec.{eqb, ltb}
 use native.Mathlib.Omega.{arith}
 use lib.Seq.{set-getD}
-use borrow.Author.Tests.{eqb-true, eqb-false, eq-eqb, ne-eqb, ltb-true, ltb-false, le-leb, lt-leb, lt-ltb}
+use borrow.Author.Tests.{eqb-true, eqb-false, eq-eqb, ne-eqb, ltb-true, ltb-false, le-leb, lt-leb}
 use Rattle.layout.specs.Choice.{cases}
 use Rattle.model.specs.declared.Area.{Area}
 use Rattle.model.specs.declared.Lengths.{Lengths}
 use Rattle.model.specs.State.{Thread, State, Memory, noThread, areaAt, threadAt, withKind, withArea, withThread, withTaken, entriesOf, stackAt, innermost}
 use Rattle.model.specs.SetUp.{newThread, firstState}
-use Rattle.model.specs.Checks.{isStarted}
 use Rattle.model.specs.Threads.{startState, endState}
 use Rattle.model.specs.Scopes.{makeState, pushed, enterState, popped, exitState}
 use Rattle.model.specs.Objects.{currentAt, allocateState}
@@ -25,7 +23,7 @@ use Rattle.model.specs.Invariant.{parentIn, stacksIn, Good}
 use Rattle.model.proofs.Accepted.{fitted-ok, start-ok, end-ok, make-ok, MakeOk, enter-ok, EnterOk, exit-ok, ExitOk, allocate-ok, AllocateOk}
 use Rattle.model.proofs.Lists.{total-set, occ-same}
 use Rattle.model.proofs.Memory.{put-same, put-other}
-use Rattle.model.proofs.Sound.{Same}
+use Rattle.model.proofs.Sound.{Same, same-words}
 use Rattle.model.proofs.Parts.{thread-same, thread-other, stack-is}
 use Rattle.model.proofs.Stacks.{stack-none}
 use Rattle.model.proofs.Bounds.{by-area, current-area}
@@ -47,7 +45,7 @@ first-thread h i n t = cases (ltb t 16)
 pub same-first : (h i : ℕ) (n : Lengths) → Same (firstState h i n) blank
 unfolding blank
 same-first h i n = record {
-  started = λ t. ap (ltb 0) (first-thread h i n t);
+  kinds = first-thread h i n;
   rows = first-stacks h i n;
   parents = λ a. first-area h i n a .parent;
 }
@@ -56,18 +54,18 @@ same-first h i n = record {
 
 module _ (s : State) (g : Good s) (b : History) (m : Same s b) (t : ℕ) (l : t < 16) where
   -- a push and a pop keep the kind
-  started-same : (r : State) → threadAt r t .kind ≡ threadAt s t .kind → ((u : ℕ) → u ≢ t → threadAt r u ≡ threadAt s u) → (u : ℕ) → isStarted r u ≡ b .started u
-  started-same r e f u = cases (eqb u t)
-      (λ d. rw (eqb-true u t d, e) (m .started t))
-      (λ d. rw (f u (eqb-false u t d)) (m .started u))
+  kinds-same : (r : State) → threadAt r t .kind ≡ threadAt s t .kind → ((u : ℕ) → u ≢ t → threadAt r u ≡ threadAt s u) → (u : ℕ) → threadAt r u .kind ≡ b .kinds u
+  kinds-same r e f u = cases (eqb u t)
+      (λ d. rw (eqb-true u t d, e) (m .kinds t))
+      (λ d. rw (f u (eqb-false u t d)) (m .kinds u))
 
   -- a thread with no entries becomes of another kind
-  same-kind : threadAt s t .len ≡ 0 → (k : ℕ) (on : Bool) → ltb 0 k ≡ on → Same (withThread s t (withKind (threadAt s t) k)) (historyStart b t on)
+  same-kind : threadAt s t .len ≡ 0 → (k : ℕ) → Same (withThread s t (withKind (threadAt s t) k)) (historyStart b t k)
   unfolding historyStart
-  same-kind z k on e = record {
-    started = λ u. cases (eqb u t)
-        (λ d. rw (eqb-true u t d, thread-same s t (withKind (threadAt s t) k) (omega (arith, g .threads .size)), put-same) e)
-        (λ d. rw (thread-other s t (withKind (threadAt s t) k) u (eqb-false u t d), put-other (b .started) t on u (eqb-false u t d)) (m .started u));
+  same-kind z k = record {
+    kinds = λ u. cases (eqb u t)
+        (λ d. rw (eqb-true u t d, thread-same s t (withKind (threadAt s t) k) (omega (arith, g .threads .size)), put-same))
+        (λ d. rw (thread-other s t (withKind (threadAt s t) k) u (eqb-false u t d), put-other (b .kinds) t k u (eqb-false u t d)) (m .kinds u));
     rows = kind-stacks s t k ∙ m .rows ∙ sym (set-getD (b .rows) t []) ∙ ap (set (b .rows) t) empty;
     parents = λ a. unfold withThread in m .parents a;
   }
@@ -78,9 +76,9 @@ module _ (s : State) (g : Good s) (b : History) (m : Same s b) (t : ℕ) (l : t 
 -- ---- enter
 
 module _ (s : State) (t q : ℕ) (g : Good s) (ok : EnterOk s t q) (b : History) (e : Same s b) where
-  enter-started : (u : ℕ) → isStarted (enterState s t q) u ≡ b .started u
+  enter-kinds : (u : ℕ) → threadAt (enterState s t q) u .kind ≡ b .kinds u
   unfolding pushed
-  enter-started = started-same s g b e t (ok .called .thread) (enterState s t q) (ap (λ (h : Thread). h .kind) (enter-thread s t q g ok)) (enter-thread-other s t q g ok)
+  enter-kinds = kinds-same s g b e t (ok .called .thread) (enterState s t q) (ap (λ (h : Thread). h .kind) (enter-thread s t q g ok)) (enter-thread-other s t q g ok)
 
   enter-rows : stacksIn (enterState s t q) ≡ set (b .rows) t (q ∷ threadRow b t)
   enter-rows = enter-stacks s t q g ok ∙ ap (λ (r : List (List ℕ)). set r t (q ∷ getD r t [])) (e .rows)
@@ -94,12 +92,12 @@ module _ (s : State) (t q : ℕ) (g : Good s) (ok : EnterOk s t q) (b : History)
 
   same-low : q < 2 → Same (enterState s t q) (historyEnter b t q)
   unfolding historyEnter
-  same-low h = rw (lt-leb 2 q h) record { started = enter-started; rows = enter-rows; parents = λ a. ap (λ (x : Area). x .parent) (enter-stays s t q h .all a .area) ∙ e .parents a }
+  same-low h = rw (lt-leb 2 q h) record { kinds = enter-kinds; rows = enter-rows; parents = λ a. ap (λ (x : Area). x .parent) (enter-stays s t q h .all a .area) ∙ e .parents a }
 
   same-open : 2 ≤ q → 0 < areaAt s q .count → Same (enterState s t q) (historyEnter b t q)
   unfolding historyEnter
   same-open h o = rw (le-leb 2 q h, ne-eqb (total q (b .rows)) 0 (λ z. omega (arith, counted h))) record {
-    started = enter-started;
+    kinds = enter-kinds;
     rows = enter-rows;
     parents = λ a. cases (eqb a q)
         (λ d. rw (eqb-true a q d) (ap (λ (x : Area). x .parent) (open-alters s t q (g .areas) (ok .area) h o .here) ∙ e .parents q))
@@ -109,7 +107,7 @@ module _ (s : State) (t q : ℕ) (g : Good s) (ok : EnterOk s t q) (b : History)
   same-fresh : 2 ≤ q → areaAt s q .count ≡ 0 → Same (enterState s t q) (historyEnter b t q)
   unfolding historyEnter
   same-fresh h z = rw (le-leb 2 q h, eq-eqb (total q (b .rows)) 0 (omega (arith, counted h))) record {
-    started = enter-started;
+    kinds = enter-kinds;
     rows = enter-rows;
     parents = λ a. cases (eqb a q)
         (λ d. rw (eqb-true a q d, put-same) (ap (λ (x : Area). x .parent) (fresh-alters s t q (g .areas) (ok .area) h z .here) ∙ inner))
@@ -129,9 +127,9 @@ module _ (s : State) (t : ℕ) (g : Good s) (ok : ExitOk s t) (b : History) (e :
   pub row-top : threadRow b t ≡ currentAt s t ∷ entriesOf (popped (threadAt s t))
   row-top = ap (λ (r : List (List ℕ)). getD r t []) (sym (e .rows)) ∙ pop-is s t g ok
 
-  exit-started : (u : ℕ) → isStarted (exitState s t) u ≡ b .started u
+  exit-kinds : (u : ℕ) → threadAt (exitState s t) u .kind ≡ b .kinds u
   unfolding popped
-  exit-started = started-same s g b e t (ok .called .thread) (exitState s t) (ap (λ (h : Thread). h .kind) (exit-thread s t g ok)) (exit-thread-other s t g ok)
+  exit-kinds = kinds-same s g b e t (ok .called .thread) (exitState s t) (ap (λ (h : Thread). h .kind) (exit-thread s t g ok)) (exit-thread-other s t g ok)
 
   exit-rows : stacksIn (exitState s t) ≡ set (b .rows) t (entriesOf (popped (threadAt s t)))
   exit-rows = exit-stacks s t g ok ∙ ap (λ (r : List (List ℕ)). set r t (entriesOf (popped (threadAt s t)))) (e .rows)
@@ -153,12 +151,12 @@ module _ (s : State) (t : ℕ) (g : Good s) (ok : ExitOk s t) (b : History) (e :
   exit-same-low : currentAt s t < 2 → Same (exitState s t) (historyExit b t)
   unfolding historyExit
   exit-same-low h = rw (row-top, lt-leb 2 (currentAt s t) h)
-      record { started = exit-started; rows = exit-rows; parents = λ a. ap (λ (x : Area). x .parent) (exit-stays s t h .all a .area) ∙ e .parents a }
+      record { kinds = exit-kinds; rows = exit-rows; parents = λ a. ap (λ (x : Area). x .parent) (exit-stays s t h .all a .area) ∙ e .parents a }
 
   exit-same-last : 2 ≤ currentAt s t → areaAt s (currentAt s t) .count ≤ 1 → Same (exitState s t) (historyExit b t)
   unfolding historyExit
   exit-same-last h k = rw (row-top, le-leb 2 (currentAt s t) h, eq-eqb (total (currentAt s t) (set (b .rows) t (entriesOf (popped (threadAt s t))))) 0 (omega (arith, left-count h))) record {
-    started = exit-started;
+    kinds = exit-kinds;
     rows = exit-rows;
     parents = λ a. cases (eqb a (currentAt s t))
         (λ d. rw (eqb-true a (currentAt s t) d, put-same) (ap (λ (x : Area). x .parent) (exit-last-area s t g ok h k)))
@@ -168,7 +166,7 @@ module _ (s : State) (t : ℕ) (g : Good s) (ok : ExitOk s t) (b : History) (e :
   exit-same-more : 2 ≤ currentAt s t → 1 < areaAt s (currentAt s t) .count → Same (exitState s t) (historyExit b t)
   unfolding historyExit
   exit-same-more h k = rw (row-top, le-leb 2 (currentAt s t) h, ne-eqb (total (currentAt s t) (set (b .rows) t (entriesOf (popped (threadAt s t))))) 0 (λ z. omega (arith, left-count h))) record {
-    started = exit-started;
+    kinds = exit-kinds;
     rows = exit-rows;
     parents = λ a. cases (eqb a (currentAt s t))
         (λ d. rw (eqb-true a (currentAt s t) d) (ap (λ (x : Area). x .parent) (exit-more-area s t g ok h k) ∙ e .parents (currentAt s t)))
@@ -183,7 +181,7 @@ module _ (s : State) (t : ℕ) (g : Good s) (ok : ExitOk s t) (b : History) (e :
 same-make : (s : State) (t q r : ℕ) → Good s → MakeOk s t q r → (b : History) → Same s b → Same (makeState s q r) b
 unfolding makeState withTaken withArea
 same-make s t q r g ok b e = record {
-  started = e .started;
+  kinds = e .kinds;
   rows = e .rows;
   parents = λ a. same-field (make-alters s (g .areas) q (ok .area) r) (λ (x : Area). x .parent) refl a ∙ e .parents a;
 }
@@ -192,7 +190,7 @@ same-allocate : (s : State) (t slots dataWords : ℕ) → Good s → AllocateOk 
     → Same (allocateState s (currentAt s t) slots dataWords) (historyAllocate b t o)
 unfolding allocateState withArea historyAllocate
 same-allocate s t slots dataWords g ok b o e = record {
-  started = e .started;
+  kinds = e .kinds;
   rows = e .rows;
   parents = λ a. same-field (allocate-alters s (g .areas) (currentAt s t) (current-area s g t (ok .called .thread)) slots dataWords) (λ (x : Area). x .parent) refl a ∙ e .parents a;
 }
@@ -202,15 +200,15 @@ same-allocate s t slots dataWords g ok b o e = record {
 pub same-call : (s : State) (m : Memory) (b : History) (c : Call) (v : ℕ) → Good s → Same s b → callStatus s m c ≡ 0 → Same (callState s m c) (historyStep b c v)
 same-call s m b (start t p) v g e z =
     let ok = start-ok s t p (fitted-ok s m _ z .1) in
-    unfold startState in same-kind s g b e t (ok .thread) (idle-empty s t p g ok) p true (lt-ltb 0 p (ok .some))
+    unfold startState in same-kind s g b e t (ok .thread) (idle-empty s t p g ok) p
 same-call s m b (end t) v g e z =
     let ok = end-ok s t (fitted-ok s m _ z .1) in
-    unfold endState in same-kind s g b e t (ok .called .thread) (ok .empty) 0 false refl
+    unfold endState in same-kind s g b e t (ok .called .thread) (ok .empty) 0
 same-call s m b (make t q r) v g e z = same-make s t q r g (make-ok s t q r (fitted-ok s m _ z .1)) b e
 same-call s m b (enter t q) v g e z = same-enter s t q g (enter-ok s t q (fitted-ok s m _ z .1)) b e
 same-call s m b (exit t) v g e z = same-exit s t g (exit-ok s t (fitted-ok s m _ z .1)) b e
 same-call s m b (allocate t q r) v g e z = same-allocate s t q r g (allocate-ok s t q r (fitted-ok s m _ z .1)) b _ e
-same-call s m b (store t p q r) v g e z = e
-same-call s m b (write t p q r) v g e z = e
+same-call s m b (store t p q r) v g e z = same-words s b _ _ e
+same-call s m b (write t p q r) v g e z = same-words s b _ _ e
 same-call s m b (asks x) v g e z = e
 same-call s m b (configure x) v g e z = configure-same s x b e

@@ -74,10 +74,10 @@ pub allocate-bounds : each busy (allocate 2 0 0 ∷ allocate 2 1 0 ∷ allocate 
 unfolding each busy
 allocate-bounds = refl
 
--- 13: null; an offset with no start bit; one at the used words, whose bit is set; another generation; a scope that is not open
+-- 13, which 19 comes after: null; an offset with no start bit; one at the used words, whose bit is set; another generation; a scope that is not open
 pub object-bounds : each busy
     (read 2 in2 0 ∷ read 2 0 0 ∷ read 2 1081345 0 ∷ read 2 1081348 0 ∷ read 2 2129920 0 ∷ read 2 32768 0 ∷ read 2 1114112 0 ∷ read 2 1064965 0 ∷ [])
-    ≡ 0 ∷ 13 ∷ 13 ∷ 13 ∷ 13 ∷ 13 ∷ 13 ∷ 13 ∷ []
+    ≡ 19 ∷ 13 ∷ 13 ∷ 13 ∷ 13 ∷ 13 ∷ 13 ∷ 13 ∷ []
 unfolding each busy
 object-bounds = refl
 
@@ -88,10 +88,10 @@ left-bounds = refl
 
 -- "the whole object ends within the used words": somebody wrote a header for scope 2's object: with 1 data word, with 3; with bits above 27
 pub spoilt : ℕ → World
-spoilt h = supplied busy (record { permanent = busy .memory .permanent; scratch = set (busy .memory .scratch) 0 h; map = busy .memory .map })
+spoilt h = supplied busy (record { permanent = busy .memory .permanent; scratch = set (busy .memory .scratch) 0 h; map = busy .memory .map; written = busy .memory .written })
 
 pub end-bounds : status (spoilt 16385) (read 2 in2 0) ∷ status (spoilt 49153) (read 2 in2 0) ∷ each (spoilt 268468225) (read 2 in2 1 ∷ read 2 in2 2 ∷ [])
-    ≡ 0 ∷ 13 ∷ 0 ∷ 14 ∷ []
+    ≡ 19 ∷ 13 ∷ 19 ∷ 14 ∷ []
 unfolding status each spoilt busy
 end-bounds = refl
 
@@ -100,7 +100,7 @@ pub index-bounds : each busy
     (load 2 inImmortal 1 ∷ load 2 inImmortal 2 ∷ store 2 inImmortal 1 0 ∷ store 2 inImmortal 2 0
     ∷ read 2 inImmortal 1 ∷ read 2 inImmortal 2 ∷ write 2 inImmortal 1 5 ∷ write 2 inImmortal 2 5 ∷ read 2 in3 0 ∷ [])
     ≡ 0 ∷ 14 ∷ 0 ∷ 14
-    ∷ 0 ∷ 14 ∷ 0 ∷ 14 ∷ 14 ∷ []
+    ∷ 19 ∷ 14 ∷ 0 ∷ 14 ∷ 14 ∷ []
 unfolding each busy
 index-bounds = refl
 
@@ -132,18 +132,21 @@ sibling-bounds = refl
 -- ---- lengths
 
 -- 1: each buffer one word short and one word long
-pub ofLengths : ℕ → ℕ → ℕ → ℕ
-ofLengths p s m = status (supplied busy (record { permanent = copies p 0; scratch = copies s 0; map = copies m 0 })) (start 4 2)
+pub ofLengths : ℕ → ℕ → ℕ → ℕ → ℕ
+ofLengths p s m w = status (supplied busy (record { permanent = copies p 0; scratch = copies s 0; map = copies m 0; written = copies w 0 })) (start 4 2)
 
-pub length-bounds : ofLengths 9 12 1 ∷ ofLengths 8 12 1 ∷ ofLengths 10 12 1 ∷ ofLengths 9 11 1 ∷ ofLengths 9 13 1 ∷ ofLengths 9 12 0 ∷ ofLengths 9 12 2 ∷ []
-    ≡ 0 ∷ 1 ∷ 1 ∷ 1 ∷ 1 ∷ 1 ∷ 1 ∷ []
+pub length-bounds : ofLengths 9 12 1 1 ∷ ofLengths 8 12 1 1 ∷ ofLengths 10 12 1 1 ∷ ofLengths 9 11 1 1 ∷ ofLengths 9 13 1 1
+    ∷ ofLengths 9 12 0 1 ∷ ofLengths 9 12 2 1 ∷ ofLengths 9 12 1 0 ∷ ofLengths 9 12 1 2 ∷ ofLengths 9 12 2 2 ∷ []
+    ≡ 0 ∷ 1 ∷ 1 ∷ 1 ∷ 1
+    ∷ 1 ∷ 1 ∷ 1 ∷ 1 ∷ 1 ∷ []
 unfolding ofLengths status busy
 length-bounds = refl
 
 -- ---- set-up
 
+-- two maps of m words
 pub setUp : ℕ → ℕ → ℕ → ℕ → ℕ → ℕ
-setUp h i p s m = setUpStatus h i (record { permanent = p; scratch = s; map = m })
+setUp h i p s m = setUpStatus h i (record { permanent = p; scratch = s; map = m }) m
 
 -- P of 16,384 and 16,385, S likewise
 pub set-up-limits : setUp 8192 8192 16384 16384 512 ∷ setUp 16384 0 16384 0 256 ∷ setUp 0 0 0 16384 256 ∷ setUp 0 0 0 0 0 ∷ setUp 16385 0 16385 0 257
@@ -163,12 +166,20 @@ pub set-up-maps : setUp 3 6 9 12 0 ∷ setUp 3 6 9 12 2 ∷ setUp 4 4 8 56 1 ∷
 unfolding setUp setUpStatus answer
 set-up-maps = refl
 
+-- the written map one word short, as long as the start map, and one word long
+pub setUpWritten : ℕ → ℕ
+setUpWritten k = setUpStatus 3 6 (record { permanent = 9; scratch = 12; map = 1 }) k
+
+pub set-up-written : setUpWritten 0 ∷ setUpWritten 1 ∷ setUpWritten 2 ∷ [] ≡ 1 ∷ 0 ∷ 1 ∷ []
+unfolding setUpWritten setUpStatus answer
+set-up-written = refl
+
 -- "A refused set-up gives the state of an accepted one with all lengths 0": a thread starts and enters heap and immortal; no scope and no
 -- object fits
 pub refused : World
 refused = record {
-  state = setUpState 18446744073709551615 3 (record { permanent = 2; scratch = 0; map = 1 });
-  memory = record { permanent = []; scratch = []; map = [] };
+  state = setUpState 18446744073709551615 3 (record { permanent = 2; scratch = 0; map = 1 }) 1;
+  memory = record { permanent = []; scratch = []; map = []; written = [] };
   trace = [];
 }
 
@@ -224,11 +235,15 @@ allocate-rights = refl
 pub uses : ℕ → ℕ → List Call
 uses t p = store t p 0 0 ∷ load t p 0 ∷ write t p 0 7 ∷ read t p 0 ∷ viewStatus t p ∷ []
 
+-- where it has the right, the read is of a word that nobody wrote
+pub used : List ℕ
+used = 0 ∷ 0 ∷ 0 ∷ 19 ∷ 0 ∷ []
+
 pub use-rights : each busy (uses 1 inHeap) ∷ each busy (uses 1 inImmortal) ∷ each busy (uses 1 in2)
     ∷ each busy (uses 3 inHeap) ∷ each busy (uses 3 inImmortal) ∷ each busy (uses 3 in2) ∷ []
-    ≡ copies 5 0 ∷ copies 5 0 ∷ copies 5 5
-    ∷ copies 5 5 ∷ copies 5 0 ∷ copies 5 0 ∷ []
-unfolding each busy uses
+    ≡ used ∷ used ∷ copies 5 5
+    ∷ copies 5 5 ∷ used ∷ used ∷ []
+unfolding each busy uses used
 use-rights = refl
 
 -- "then R for the target or loaded word, where null always passes": a reference to the heap, by no-heap, ordinary and real-time

@@ -5,6 +5,7 @@ use mathlib.Core.Bool.{Bool, not}
 use mathlib.Core.List.{List, [], _∷_}
 use mathlib.Core.Path.{_≡_, refl, ap, _∙_}
 use mathlib.Core.Logic.{⊎-elim}
+use lib.Dec.{ltb}
 use borrow.Author.Tests.{eq-eqb, ne-eqb}
 use Rattle.layout.specs.Choice.{refuse, cases}
 use Rattle.layout.specs.Below.{someBelow}
@@ -72,4 +73,4 @@ in-force-line s m ls f {l} d = ⊎-elim
 -- the history has the started threads
 pub load-told : (s : State) (m : Memory) (b : History) → Sound s m b → (text : List ℕ) → callStatus s m (loadRights text) ≡ loadAnswer b text
 unfolding loadRightsStatus anyStarted loadAnswer
-load-told s m b o text = ap (λ (f : ℕ → Bool). refuse (not (isTable text)) 23 (refuse (someBelow f 16) 24 0)) (λ i t. o .same .started t i)
+load-told s m b o text = ap (λ (f : ℕ → Bool). refuse (not (isTable text)) 23 (refuse (someBelow f 16) 24 0)) (λ i t. ltb 0 (o .same .kinds t i))

@@ -48,13 +48,13 @@ module _ (h i : ℕ) (n : Lengths) where
     scratch : n .scratch ≤ 16384
     map : n .map ≡ (n .permanent + n .scratch + 63) / 64
 
-  set-up-ok : setUpStatus h i n ≡ 0 → SetUpOk
+  set-up-ok : (k : ℕ) → setUpStatus h i n k ≡ 0 → SetUpOk
   unfolding setUpStatus
-  set-up-ok e =
+  set-up-ok k e =
       let a = peel (not (eqb (h + i) (n .permanent))) 0 _ e in
       let b = peel _ 0 _ (a .1) in
       let c = peel _ 0 _ (b .1) in
-      let d = peel (not (eqb (n .map) ((n .permanent + n .scratch + 63) / 64))) 0 0 (c .1) in
+      let d = peel (not (eqb (n .map) ((n .permanent + n .scratch + 63) / 64))) 0 _ (c .1) in
       record {
         whole = eqb-true (h + i) (n .permanent) (not-false (eqb (h + i) (n .permanent)) (a .0));
         permanent = omega (arith, ltb-false _ (n .permanent) (b .0));
@@ -107,9 +107,9 @@ module _ (h i : ℕ) (n : Lengths) where
     apart = λ a c ha ka hc kc ne j k hj hk. absurd (omega (arith, ap (λ (x : Area). x .size) (first-scope a ha)));
   }
 
-  pub good-first : setUpStatus h i n ≡ 0 → Good (firstState h i n)
+  pub good-first : (k : ℕ) → setUpStatus h i n k ≡ 0 → Good (firstState h i n)
   unfolding firstState
-  good-first e = record {
+  good-first k e = record {
     areas = refl;
     rows = each-replicate (λ (r : List ℕ). length r ≡ 32) [] 64 (replicate 32 0) refl;
     threads = each-replicate ThreadGood noThread 16 newThread record {
@@ -123,7 +123,7 @@ module _ (h i : ℕ) (n : Lengths) where
     };
     standing = first-standing;
     scopes = λ a k l. first-scopes a k;
-    placed = first-placed (set-up-ok e);
+    placed = first-placed (set-up-ok k e);
     rights = built-in-loadable;
     nesting = rw first-stacks record {
       size = refl;
@@ -133,13 +133,13 @@ module _ (h i : ℕ) (n : Lengths) where
   }
 
 -- a refused set-up gives the state of an accepted one
-pub good-set-up : (h i : ℕ) (n : Lengths) → Good (setUpState h i n)
+pub good-set-up : (h i : ℕ) (n : Lengths) (k : ℕ) → Good (setUpState h i n k)
 unfolding setUpState
-good-set-up h i n =
+good-set-up h i n k =
     cases
-    (eqb (setUpStatus h i n) 0)
-    (λ e. rw e (good-first h i n (eqb-true (setUpStatus h i n) 0 e)))
-    (λ e. rw e (good-first 0 0 (record { permanent = 0; scratch = 0; map = 0 }) (unfold setUpStatus refuse in refl)))
+    (eqb (setUpStatus h i n k) 0)
+    (λ e. rw e (good-first h i n k (eqb-true (setUpStatus h i n k) 0 e)))
+    (λ e. rw e (good-first 0 0 (record { permanent = 0; scratch = 0; map = 0 }) 0 (unfold setUpStatus refuse in refl)))
 
 -- ---- calls
 

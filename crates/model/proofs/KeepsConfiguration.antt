@@ -27,7 +27,7 @@ module _ (s : State) (text : List ℕ) where
 
   load-same : (b : History) → Same s b → Same (loadRightsState s text) b
   unfolding loadRightsState withRights
-  load-same b e = record { started = e .started; rows = e .rows; parents = e .parents }
+  load-same b e = record { kinds = e .kinds; rows = e .rows; parents = e .parents }
 
 -- ---- any of them
 

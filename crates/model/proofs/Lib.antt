@@ -2,6 +2,7 @@
 pub mod SampleRuns
 pub mod Samples
 pub mod ValueSamples
+pub mod WrittenSamples
 pub mod BoundSamples
 pub mod MeetingSamples
 pub mod RightsSamples
@@ -38,6 +39,7 @@ pub mod ValueMeanings
 pub mod Openings
 pub mod Stored
 pub mod Configured
+pub mod Readings
 pub mod LineClaims
 pub mod Theorem
 pub mod Reached

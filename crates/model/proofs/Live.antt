@@ -6,9 +6,9 @@ use mathlib.Core.List.{List, []}
 use mathlib.Core.Path.{_≡_, refl, sym, ap, _∙_}
 use lib.Dec.{eqb, leb, ltb}
 use native.Mathlib.Omega.{arith}
-use borrow.Author.Tests.{ltb-true, ltb-false, eqb-true, eq-eqb, le-leb, lt-ltb, le-ltb}
+use borrow.Author.Tests.{ltb-true, ltb-false, eqb-true, eq-eqb, ne-eqb, le-leb, lt-ltb, le-ltb}
 use Rattle.layout.specs.Choice.{cases, and-true}
-use Rattle.layout.specs.Handle.{handleOf, offsetOf, areaOf, generationOf}
+use Rattle.layout.specs.Handle.{null, handleOf, offsetOf, areaOf, generationOf}
 use Rattle.layout.specs.Header.{slotsOf, dataOf}
 use Rattle.layout.specs.HandleLaws.{packed, area-lt, area-packed, generation-packed}
 use Rattle.model.specs.State.{State, Memory, isOpen, displayAt, wordAt}
@@ -52,6 +52,15 @@ module _ (s : State) (m : Memory) (b : History) (o : Sound s m b) where
         let z : 0 < occurrences (handleOf (offsetOf h) (areaOf h) (generationIn s (areaOf h))) (handles (b .objects (areaOf h)))
         = tiled-at _ _ _ _ (b .objects (areaOf h)) (usedIn s (areaOf h)) (offsetOf h) (o .memory .tiles (areaOf h) (area-lt h)) (ltb-true _ _ (r .0)) (u .0) in
         rw (ap (handleOf (offsetOf h) (areaOf h)) (sym (eqb-true _ _ (q .0))) ∙ packed h) at z
+
+    -- null is not live: the heap's generation is 1
+    pub live-some : live s m h ≡ true → eqb h null ≡ false
+    unfolding live areaOf generationOf
+    live-some e = ne-eqb h null (λ z.
+        let p = and-true (ltb (areaOf h) 2 || isOpen s (areaOf h)) _ e in
+        let q = and-true (eqb (generationOf h) (generationIn s (areaOf h))) _ (p .1) in
+        let g : generationOf h ≡ generationIn s (areaOf h) = eqb-true _ _ (q .0) in
+        omega (arith, rw z at g, o .good .standing 0 (omega arith) .generation))
 
     module _ (p : 0 < occurrences h (handles (b .objects (areaOf h)))) where
       -- the area of an object that is not gone is open

@@ -14,7 +14,7 @@ use Rattle.layout.specs.Handle.{offsetOf}
 use Rattle.model.specs.State.{State, Memory, areaAt, current, storeOf}
 use Rattle.model.specs.Calls.{Call, start, end, make, enter, exit, allocate, store, write, asks, configure}
 use Rattle.model.specs.Run.{Line, World}
-use Rattle.model.specs.History.{Object, History, threadRow, below, occurrences, handles, isScopeOnNone, historyStart, historyEnter, historyExit, historyAllocate, historyStep, historyLine, historyFrom, historyOf}
+use Rattle.model.specs.History.{Object, History, threadRow, below, occurrences, handles, isScopeOnNone, historyStart, historyEnter, historyExit, historyAllocate, historyWords, historyStep, historyLine, historyFrom, historyOf}
 use Rattle.model.specs.Claims.{Open, Walk, ends, goes, Meets, here, up, InOrder, keep, skip, onRow, scan, In, Among, Within, Allocates, Since, made, stays, Names, Claims}
 use Rattle.model.proofs.Lists.{on-one, occ-le-total, occ-nil, occ-other}
 use Rattle.model.proofs.Memory.{put-same, put-other}
@@ -215,7 +215,7 @@ module _ (b : History) (a : ℕ) (o : Object) (i : In o (b .objects a)) where
       (λ d. inl (rw (put-other (b .objects) (current (threadRow b t)) (n ∷ b .objects (current (threadRow b t))) a (eqb-false a (current (threadRow b t)) d)) i))
 
   kept-step : (c : Call) (v : ℕ) → KeptOrGone (historyStep b c v)
-  unfolding historyStart historyEnter
+  unfolding historyStart historyEnter historyWords
   kept-step (start t p) v = inl i
   kept-step (end t) v = inl i
   kept-step (make t q r) v = inl i

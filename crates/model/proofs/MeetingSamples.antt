@@ -20,7 +20,7 @@ wrong t =
 
 -- the scratch store is one word short
 pub short : World
-short = supplied busy (record { permanent = copies 9 9; scratch = copies 11 9; map = copies 1 0 })
+short = supplied busy (record { permanent = copies 9 9; scratch = copies 11 9; map = copies 1 0; written = copies 1 0 })
 
 -- 1 comes first, by a thread above 15 and by one that is started
 pub lengths-first : each short (wrong 16) ++ each short (wrong 2) ≡ copies 22 1
@@ -85,7 +85,7 @@ store-meets = refl
 -- somebody wrote words that are no handles, of the heap's area, into the second slot and the first data word of immortal memory's object
 pub spoilt : World
 spoilt = supplied busy
-    (record { permanent = set (set (busy .memory .permanent) 5 1048577) 6 1048577; scratch = busy .memory .scratch; map = busy .memory .map })
+    (record { permanent = set (set (busy .memory .permanent) 5 1048577) 6 1048577; scratch = busy .memory .scratch; map = busy .memory .map; written = busy .memory .written })
 
 -- op 08: 14 and 15; 15 and 5 (R)
 pub load-meets : each spoilt (load 2 inImmortal 2 ∷ load 3 inImmortal 1 ∷ []) ≡ 14 ∷ 15 ∷ []

@@ -10,7 +10,7 @@ use native.Mathlib.Omega.{arith}
 use borrow.Author.Tests.{eqb-true, eqb-false, eq-eqb, ne-eqb}
 use Rattle.layout.specs.Choice.{cases}
 use Rattle.layout.specs.Handle.{handleOf, areaOf}
-use Rattle.model.specs.History.{Object, occurrences, handles, putAt}
+use Rattle.model.specs.History.{Object, occurrences, handles, putAt, putWord}
 use Rattle.model.proofs.Lists.{occ-more}
 use Rattle.model.proofs.Tiles.{place, IsHeader, Tile, Tiled, tiled-frame, tiled-store, tiled-data, tiled-push}
 
@@ -42,6 +42,16 @@ put-same f q v = rw (eq-eqb q q refl)
 pub put-other {ℓ} : {A : Type ℓ} (f : ℕ → A) (q : ℕ) (v : A) (a : ℕ) → a ≢ q → putAt f q v a ≡ f a
 unfolding putAt
 put-other f q v a h = rw (ne-eqb a q h)
+
+-- one word of a handle is put
+module _ (f : ℕ → ℕ → ℕ) (h i v : ℕ) where
+  pub put-word-own : (k j : ℕ) → k ≡ h → j ≡ i → putWord f h i v k j ≡ v
+  put-word-own k j d e = rw (d, e, put-same f h (putAt (f h) i v), put-same (f h) i v)
+
+  pub put-word-other : (k j : ℕ) → (k ≡ h → j ≡ i → ⊥) → putWord f h i v k j ≡ f k j
+  put-word-other k j n = cases (eqb k h)
+      (λ e. rw (eqb-true k h e, put-same f h (putAt (f h) i v)) (put-other (f h) i v j (n (eqb-true k h e))))
+      (λ e. rw (put-other f h (putAt (f h) i v) k (eqb-false k h e)))
 
 -- an area after a call that writes no word: it is as it was, or it has no object
 pub record Kept (dis dis′ : ℕ → List ℕ) (used used′ generation generation′ : ℕ → ℕ) (objects objects′ : ℕ → List Object) (a : ℕ) : Type 0 where

@@ -51,7 +51,7 @@ module _ (s : State) (m : Memory) (b : History) (o : Sound s m b) where
       → Ok (b .objects) (displayAt s) a (wordAt s m a (suc (offsetOf (x .handle) + i)))
   slot-holds a x k h i p = tile-of a x h k .1 .refs i p
 
-  handle-area : (a : ℕ) (x : Object) → a < 64 → In x (b .objects a) → areaOf (x .handle) ≡ a
+  pub handle-area : (a : ℕ) (x : Object) → a < 64 → In x (b .objects a) → areaOf (x .handle) ≡ a
   handle-area a x h i =
       let t = tile-of a x h i in
       tile-parts s m b o a h (t .1) (t .2) .0

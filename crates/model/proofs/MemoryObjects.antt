@@ -4,7 +4,7 @@ use Prim.Native.Nat.{ℕ, zero, suc, _+_, _-_, _*_, _/_, _≤_, _<_}
 use mathlib.Core.Bool.{true}
 use mathlib.Core.List.{List, _∷_}
 use mathlib.Core.Path.{_≡_, refl, sym, ap, _∙_}
-use mathlib.Core.Logic.{_≢_, _⊎_, inl, inr}
+use mathlib.Core.Logic.{_≢_, _⊎_, inl, inr, ⊎-elim}
 use lib.ListN.{length, getD, length-set}
 use lib.Seq.{getD-set-same, getD-set-other}
 use lib.Dec.{eqb, ltb}
@@ -17,16 +17,16 @@ use Rattle.layout.specs.HandleLaws.{offset-packed, slots-packed, data-packed}
 use Rattle.bitmap.specs.Bitmap.{bitAt, withBit, cleared}
 use Rattle.bitmap.specs.BitmapLaws.{length-cleared, bit-with-same, bit-with-other, cleared-inside, cleared-outside}
 use Rattle.model.specs.declared.Area.{Area}
-use Rattle.model.specs.State.{State, Memory, areaAt, displayAt, storeOf, withMap, withStore, wordAt, bitIndex}
+use Rattle.model.specs.State.{State, Memory, areaAt, displayAt, storeOf, withStore, wordAt, bitIndex}
 use Rattle.model.specs.Checks.{fits}
-use Rattle.model.specs.Objects.{currentAt, grown, filled, objectWords, objectBits, allocateState, allocateMemory, allocateValue}
+use Rattle.model.specs.Objects.{currentAt, grown, filled, objectWords, objectBits, unwrittenBits, objectMaps, allocateState, allocateMemory, allocateValue}
 use Rattle.model.specs.History.{Object, History, putAt, historyAllocate}
 use Rattle.model.specs.Invariant.{countIn, Good}
 use Rattle.model.proofs.Accepted.{AllocateOk}
 use Rattle.model.proofs.Tiles.{place, IsHeader, Tile}
 use Rattle.model.proofs.Memory.{mem-cong, mem-alloc, put-other}
 use Rattle.model.proofs.Sound.{Same, usedIn, generationIn, bitIn, Sound}
-use Rattle.model.proofs.PlacedWords.{size-room, used-in, one-word, one-place, word-in, bit-in, replaced, read-same, store-fits, fits-also}
+use Rattle.model.proofs.PlacedWords.{size-room, used-in, one-word, one-place, word-in, bit-in, written-in, replaced, read-same, store-fits, fits-also}
 use Rattle.model.proofs.Alters.{Alters, same-field, allocate-alters, allocate-rows}
 use Rattle.model.proofs.MemoryKept.{moved-all, dead-on}
 use Rattle.model.proofs.Bounds.{current-area, current-open}
@@ -84,6 +84,14 @@ module _ (l : List ℕ) (at slots dataWords : ℕ) where
 
 -- ---- its bits
 
+-- a number that is none of a run lies below or above it
+outside-run : (at n v : ℕ) → ((k : ℕ) → k ≤ n → v ≢ at + k) → (v < at) ⊎ (at + suc n ≤ v)
+outside-run at n v f = cases (ltb v at)
+    (λ e. inl (ltb-true v at e))
+    (λ e. cases (ltb v (at + suc n))
+    (λ d. absurd (f (v - at) (omega (arith, ltb-true v (at + suc n) d, ltb-false v at e)) (omega (arith, ltb-false v at e))))
+    (λ d. inr (ltb-false v (at + suc n) d)))
+
 module _ (map : List ℕ) (at n : ℕ) (h : suc (at + n) ≤ 64 * length map) where
   at-in : at / 64 < length (cleared map (suc at) n)
   at-in = omega (arith, length-cleared map (suc at) n)
@@ -100,18 +108,15 @@ module _ (map : List ℕ) (at n : ℕ) (h : suc (at + n) ≤ 64 * length map) wh
   unfolding objectBits
   bits-other v f =
       bit-with-other (cleared map (suc at) n) at at-in v (λ e. f 0 (omega arith) (omega arith))
-      ∙ cleared-outside map (suc at) n v (omega arith) outside
-    where
-      outside : (v < suc at) ⊎ (suc at + n ≤ v)
-      outside = cases (ltb v (suc at))
-          (λ e. inl (ltb-true v (suc at) e))
-          (λ e. cases (ltb v (suc at + n))
-          (λ d. absurd (f (v - at) (omega (arith, ltb-true v (suc at + n) d, ltb-false v (suc at) e)) (omega (arith, ltb-false v (suc at) e))))
-          (λ d. inr (ltb-false v (suc at + n) d)))
+      ∙ cleared-outside map (suc at) n v (omega arith) (⊎-elim (λ l. inl (omega arith)) (λ g. inr (omega arith)) (outside-run at n v f))
 
 length-bits : (map : List ℕ) (at n : ℕ) → length (objectBits map at n) ≡ length map
 unfolding objectBits withBit
 length-bits map at n = length-set (cleared map (suc at) n) _ _ ∙ length-cleared map (suc at) n
+
+length-unwritten : (written : List ℕ) (at n : ℕ) → length (unwrittenBits written at n) ≡ length written
+unfolding unwrittenBits
+length-unwritten written at n = length-cleared written at (suc n)
 
 -- ---- an object on top of area c, which has room for it
 
@@ -128,7 +133,7 @@ module _ (s : State) (m : Memory) (b : History) (o : Sound s m b) (c slots dataW
 
   -- the memory with the object's bits alone
   abbrev marked : Memory
-  marked = withMap m (objectBits (m .map) (bitIndex s c (usedIn s c)) (slots + dataWords))
+  marked = objectMaps m (bitIndex s c (usedIn s c)) (slots + dataWords)
 
   to : Alters s (allocateState s c slots dataWords) c (grown (areaAt s c) (suc (usedIn s c + slots + dataWords)))
   to = allocate-alters s (o .good .areas) c hc slots dataWords
@@ -142,6 +147,10 @@ module _ (s : State) (m : Memory) (b : History) (o : Sound s m b) (c slots dataW
   map-is : k .map ≡ objectBits (m .map) (bitIndex s c (usedIn s c)) (slots + dataWords)
   unfolding allocateMemory withStore
   map-is = refl
+
+  written-is : k .written ≡ unwrittenBits (m .written) (bitIndex s c (usedIn s c)) (slots + dataWords)
+  unfolding allocateMemory withStore
+  written-is = refl
 
   -- a used word of any area is none of the object's
   clear : (a j : ℕ) → j < usedIn s a → (i : ℕ) → (a ≡ c) × (j ≡ usedIn s c + i) → ⊥
@@ -164,7 +173,23 @@ module _ (s : State) (m : Memory) (b : History) (o : Sound s m b) (c slots dataW
       (bits-other (m .map) (bitIndex s c (usedIn s c)) (slots + dataWords) bits-in (bitIndex s a j) (λ i l d.
       clear a j p i (one-word s (o .good .placed) a c h hc j (usedIn s c + i) (used-in s (o .good .placed) a h j p) (omega arith) (omega arith)))))
 
-  at-place : place made ≡ usedIn s c
+  -- the written bits of other words are as they were, those of the object's words are 0
+  written-room : bitIndex s c (usedIn s c) + suc (slots + dataWords) ≤ 64 * length (m .written)
+  written-room = omega (arith, written-in s m (o .good .placed) (o .supplied) c hc (usedIn s c + slots + dataWords) rm)
+
+  pub written-other : (a j : ℕ) → a < 64 → j < usedIn s a → bitAt (k .written) (bitIndex n a j) ≡ bitAt (m .written) (bitIndex s a j)
+  unfolding unwrittenBits
+  written-other a j h p = rw (written-is, index-is a j)
+      (cleared-outside (m .written) (bitIndex s c (usedIn s c)) (suc (slots + dataWords)) (bitIndex s a j) written-room
+      (outside-run (bitIndex s c (usedIn s c)) (slots + dataWords) (bitIndex s a j) (λ i l d.
+      clear a j p i (one-word s (o .good .placed) a c h hc j (usedIn s c + i) (used-in s (o .good .placed) a h j p) (omega arith) (omega arith)))))
+
+  pub written-here : (j : ℕ) → usedIn s c ≤ j → j ≤ usedIn s c + (slots + dataWords) → bitAt (k .written) (bitIndex n c j) ≡ 0
+  unfolding unwrittenBits
+  written-here j p q = rw (written-is, index-is c j)
+      (cleared-inside (m .written) (bitIndex s c (usedIn s c)) (suc (slots + dataWords)) (bitIndex s c j) written-room (omega arith) (omega arith))
+
+  pub at-place : place made ≡ usedIn s c
   unfolding allocateValue
   at-place = offset-packed (usedIn s c) c (generationIn s c) (omega (arith, size-room s (o .good .placed) c hc))
 
@@ -206,7 +231,8 @@ module _ (s : State) (m : Memory) (b : History) (o : Sound s m b) (c slots dataW
   fits-then : fits n k ≡ true
   unfolding fits allocateMemory
   fits-then = rw (to .lengths) (store-fits marked c (objectWords (storeOf m c) (areaAt s c .start + usedIn s c) slots dataWords) s
-      (fits-also s m (o .supplied) marked refl refl (length-bits (m .map) (bitIndex s c (usedIn s c)) (slots + dataWords)))
+      (fits-also s m (o .supplied) marked refl refl (length-bits (m .map) (bitIndex s c (usedIn s c)) (slots + dataWords))
+      (length-unwritten (m .written) (bitIndex s c (usedIn s c)) (slots + dataWords)))
       (length-object (storeOf m c) (areaAt s c .start + usedIn s c) slots dataWords))
 
   -- with a history that has it first among the objects of c

@@ -26,13 +26,13 @@ module _ (s : State) (m : Memory) (b : History) (o : Sound s m b) where
   stays-sound n c g i k eo eg = sound-still s m b o n c g i (k .lengths) (λ a. moved-same (k .all a)) eo eg
       (λ a. still-same (k .all a)) (λ a z. sym (ap (λ (x : Area). x .count) (k .all a .area)) ∙ z)
 
-  pub sound-start : (t p : ℕ) → Good (startState s t p) → Same (startState s t p) (historyStart b t true) → Sound (startState s t p) m (historyStart b t true)
+  pub sound-start : (t p : ℕ) → Good (startState s t p) → Same (startState s t p) (historyStart b t p) → Sound (startState s t p) m (historyStart b t p)
   unfolding historyStart
-  sound-start t p g i = stays-sound (startState s t p) (historyStart b t true) g i (start-stays s t p) refl refl
+  sound-start t p g i = stays-sound (startState s t p) (historyStart b t p) g i (start-stays s t p) refl refl
 
-  pub sound-end : (t : ℕ) → Good (endState s t) → Same (endState s t) (historyStart b t false) → Sound (endState s t) m (historyStart b t false)
+  pub sound-end : (t : ℕ) → Good (endState s t) → Same (endState s t) (historyStart b t 0) → Sound (endState s t) m (historyStart b t 0)
   unfolding historyStart
-  sound-end t g i = stays-sound (endState s t) (historyStart b t false) g i (end-stays s t) refl refl
+  sound-end t g i = stays-sound (endState s t) (historyStart b t 0) g i (end-stays s t) refl refl
 
   -- an area of no words has none used, so it may lie elsewhere
   pub sound-make : (t q r : ℕ) → MakeOk s t q r → Good (makeState s q r) → Same (makeState s q r) b → Sound (makeState s q r) m b

@@ -2,9 +2,10 @@
 -- Assumes nothing.
 use Prim.Native.Nat.{ℕ, suc, _+_, _-_, _≤_, _<_}
 use mathlib.Core.Bool.{true, false, _||_}
+use mathlib.Core.List.{List}
 use mathlib.Core.Path.{_≡_, refl, ap}
 use mathlib.Core.Logic.{inl, inr}
-use lib.ListN.{set, length-set}
+use lib.ListN.{length, set, length-set}
 use lib.Seq.{getD-set-same, getD-set-other}
 use lib.Dec.{eqb, leb, ltb}
 use native.Mathlib.Omega.{arith}
@@ -13,19 +14,20 @@ use Rattle.layout.specs.Choice.{cases, and-true}
 use Rattle.layout.specs.Handle.{null, offsetOf, areaOf}
 use Rattle.layout.specs.Header.{slotsOf, dataOf}
 use Rattle.layout.specs.HandleLaws.{area-lt}
+use Rattle.bitmap.specs.Bitmap.{withBit}
 use Rattle.layout.specs.Display.{rowHolds}
 use Rattle.layout.specs.DisplayLaws.{holds-entry}
-use Rattle.model.specs.State.{State, Memory, areaAt, rowAt, displayAt, displayHolds, storeOf, withStore, wordAt}
+use Rattle.model.specs.State.{State, Memory, areaAt, rowAt, displayAt, displayHolds, storeOf, withWritten, withStore, wordAt}
 use Rattle.model.specs.Checks.{headerAt, live, isReference}
 use Rattle.model.specs.References.{mayRefer, wordAfter, storeAfter}
-use Rattle.model.specs.Data.{dataIndex}
+use Rattle.model.specs.Data.{dataIndex, writtenIndex, writeMemory}
 use Rattle.model.specs.History.{Object, History, occurrences, handles}
 use Rattle.model.specs.Invariant.{parentIn, countIn}
 use Rattle.model.proofs.Walks.{occ-down}
 use Rattle.model.proofs.Tiles.{place, IsHeader}
 use Rattle.model.proofs.Memory.{Reach, Ok, Mem, mem-store, mem-data}
 use Rattle.model.proofs.Sound.{usedIn, generationIn, bitIn, Sound}
-use Rattle.model.proofs.PlacedWords.{used-in, one-place, word-in, replaced, read-same, store-fits}
+use Rattle.model.proofs.PlacedWords.{used-in, one-place, word-in, replaced, read-same, store-fits, fits-also}
 use Rattle.model.proofs.Live.{live-given, given-tile, given-place, given-ends, given-head}
 
 -- ---- one used word is replaced
@@ -55,6 +57,17 @@ module _ (s : State) (m : Memory) (b : History) (o : Sound s m b) (c p v : ℕ) 
     dead = o .dead;
     above = o .above;
   }
+
+-- other written bits: neither words nor start bits see them
+pub sound-written : (s : State) (m : Memory) (b : History) → Sound s m b → (l : List ℕ) → length l ≡ length (m .written) → Sound s (withWritten m l) b
+sound-written s m b o l e = record {
+  good = o .good;
+  same = o .same;
+  supplied = fits-also s m (o .supplied) (withWritten m l) refl refl refl e;
+  memory = o .memory;
+  dead = o .dead;
+  above = o .above;
+}
 
 -- ---- the assignment rule
 
@@ -108,9 +121,9 @@ module _ (s : State) (m : Memory) (b : History) (o : Sound s m b) (p : ℕ) (lv 
     data-in : suc (offsetOf p + dataIndex s m p i) < usedIn s (areaOf p)
     data-in = omega (arith, given-head s m b o p given .slots, given-head s m b o p given .dataWords, given-ends s m b o p given)
 
-    pub sound-write : (r : ℕ) → Sound s (storeAfter s m p (dataIndex s m p i) r) b
+    sound-data : (r : ℕ) → Sound s (storeAfter s m p (dataIndex s m p i) r) b
     unfolding storeAfter
-    sound-write r = sound-put s m b o (areaOf p) (suc (offsetOf p + dataIndex s m p i)) r (area-lt p) data-in
+    sound-data r = sound-put s m b o (areaOf p) (suc (offsetOf p + dataIndex s m p i)) r (area-lt p) data-in
         (mem-data (o .memory) (areaOf p) (suc (offsetOf p + dataIndex s m p i)) p (wordAt s (wordPut s m (areaOf p) (suc (offsetOf p + dataIndex s m p i)) r))
         among given
         (put-other-word s m b o (areaOf p) (suc (offsetOf p + dataIndex s m p i)) r (area-lt p) data-in))
@@ -122,3 +135,7 @@ module _ (s : State) (m : Memory) (b : History) (o : Sound s m b) (p : ℕ) (lv 
             let at : place x ≡ offsetOf p = ap offsetOf e in
             let is : IsHeader (headerAt s m p) x = rw at at hd in
             omega (arith, is .slots, is .dataWords)
+
+    pub sound-write : (r : ℕ) → Sound s (writeMemory s m p i r) b
+    unfolding writeMemory storeAfter withStore withBit
+    sound-write r = sound-written s (storeAfter s m p (dataIndex s m p i) r) b (sound-data r) (withBit (m .written) (writtenIndex s m p i)) (length-set (m .written) _ _)

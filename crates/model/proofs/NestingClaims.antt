@@ -16,7 +16,7 @@ use Rattle.layout.specs.StackLaws.{length-down}
 use Rattle.model.specs.declared.Area.{Area}
 use Rattle.model.specs.State.{Thread, State, noArea, noThread, areaAt, rowAt, threadAt, entriesOf, stackAt, isOpen, displayAt, displayHolds}
 use Rattle.model.specs.Checks.{isStarted}
-use Rattle.model.specs.History.{History, threadRow, occurrences}
+use Rattle.model.specs.History.{History, startedIn, threadRow, occurrences}
 use Rattle.model.specs.Claims.{Open, Walk, Meets, InOrder, scan}
 use Rattle.model.specs.Invariant.{Nested, Nesting, countIn, Good}
 use Rattle.model.proofs.Nesting.{Chain, row-at, StandsOn, stands-on}
@@ -48,8 +48,8 @@ module _ (s : State) (b : History) (g : Good s) (e : Same s b) where
 
   -- ---- the history's things
 
-  pub started : (t : ℕ) → isStarted s t ≡ b .started t
-  started = e .started
+  pub started : (t : ℕ) → isStarted s t ≡ startedIn b t
+  started t = ap (ltb 0) (e .kinds t)
 
   pub stacks : (t : ℕ) → stackAt s t ≡ threadRow b t
   stacks t = sym (stack-is s t) ∙ ap (λ (r : List (List ℕ)). getD r t []) (e .rows)
@@ -87,10 +87,10 @@ module _ (s : State) (b : History) (g : Good s) (e : Same s b) where
   no-thread : (t : ℕ) → ltb t 16 ≡ false → threadAt s t ≡ noThread
   no-thread t d = List·getD-eq-default (s .threads) noThread {n = t} (omega (arith, ltb-false t 16 d, g .threads .size))
 
-  pub threads : (t : ℕ) → b .started t ≡ true → t < 16
+  pub threads : (t : ℕ) → startedIn b t ≡ true → t < 16
   threads t k = cases (ltb t 16)
       (λ d. ltb-true t 16 d)
-      (λ d. absurd (false≢true (sym (ap (λ (h : Thread). ltb 0 (h .kind)) (no-thread t d)) ∙ e .started t ∙ k)))
+      (λ d. absurd (false≢true (sym (ap (λ (h : Thread). ltb 0 (h .kind)) (no-thread t d)) ∙ started t ∙ k)))
 
   pub scopes : (a : ℕ) → Open b a → a < 64
   scopes a o = open-at a o .1 .0 .area

@@ -33,6 +33,7 @@ pub record Refuses (s : State) (m : Memory) (l : Line) (n : State) (k : Memory) 
   pub state : n ≡ s
   pub memory : k ≡ m
   pub status : l .reply .status ≢ 0
+  pub value : l .reply .value ≡ 0
   pub number : (l .reply .status ≡ callStatus s m (l .call)) ⊎ ((l .reply .status ≡ 1) × (isSupplied (l .call) ≡ true))
 
 abbrev pub Transition : State → Memory → Line → State → Memory → Type 0
@@ -69,7 +70,7 @@ transition : (s : State) (m : Memory) (c : Call) → Transition s m (lineFor s m
 unfolding outcomeOf
 transition s m c = cases (eqb (callStatus s m c) 0)
     (λ e. rw e (inl record { passed = eqb-true (callStatus s m c) 0 e; state = refl; memory = refl; status = refl; value = refl }))
-    (λ e. rw e (inr record { state = refl; memory = refl; status = eqb-false (callStatus s m c) 0 e; number = inl refl }))
+    (λ e. rw e (inr record { state = refl; memory = refl; status = eqb-false (callStatus s m c) 0 e; value = refl; number = inl refl }))
 
 -- the calls that 1 does not refuse: the view, which has no status, and those that are lent no buffer
 data Skips1 : Call → Type 0 where
@@ -126,13 +127,13 @@ module _ (s : State) (n : Memory) (u : fits s n ≡ false) where
   unfit m c = ⊎-elim by-1 by-none (unfit-status c)
     where
       by-1 : By1 c → Transition s m (lineFor s n c) (outcomeOf s n c .state) m
-      by-1 e = unfold outcomeOf in rw (e .0) (inr record { state = refl; memory = refl; status = λ z. omega arith; number = inr (refl, e .1) })
+      by-1 e = unfold outcomeOf in rw (e .0) (inr record { state = refl; memory = refl; status = λ z. omega arith; value = refl; number = inr (refl, e .1) })
 
       by-none : {d : Call} → Skips1 d → Transition s m (lineFor s n d) (outcomeOf s n d .state) m
       by-none (views-part t p) = unfold outcomeOf in inl record { passed = refl; state = refl; memory = refl; status = refl; value = refl }
       by-none (configures x) = unfold outcomeOf in cases (eqb (callStatus s m (configure x)) 0)
           (λ e. rw e (inl record { passed = eqb-true (callStatus s m (configure x)) 0 e; state = refl; memory = refl; status = refl; value = refl }))
-          (λ e. rw e (inr record { state = refl; memory = refl; status = eqb-false (callStatus s m (configure x)) 0 e; number = inl refl }))
+          (λ e. rw e (inr record { state = refl; memory = refl; status = eqb-false (callStatus s m (configure x)) 0 e; value = refl; number = inl refl }))
 
 -- a call that is lent no buffer answers and changes the state alike whatever is kept, and what is kept stays
 pub record Apart (s : State) (m n : Memory) (c : Call) : Type 0 where

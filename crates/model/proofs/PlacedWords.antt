@@ -95,31 +95,36 @@ module _ (s : State) (m : Memory) (f : fits s m ≡ true) where
     pub permanent : length (m .permanent) ≡ s .lengths .permanent
     pub scratch : length (m .scratch) ≡ s .lengths .scratch
     pub map : length (m .map) ≡ s .lengths .map
+    pub written : length (m .written) ≡ s .lengths .map
 
   pub supplied-lengths : SuppliedLengths
   unfolding fits
   supplied-lengths =
       let p = and-true (eqb (length (m .permanent)) (s .lengths .permanent)) _ f in
       let q = and-true (eqb (length (m .scratch)) (s .lengths .scratch)) _ (p .1) in
-      record { permanent = eqb-true _ _ (p .0); scratch = eqb-true _ _ (q .0); map = eqb-true _ _ (q .1) }
+      let r = and-true (eqb (length (m .map)) (s .lengths .map)) _ (q .1) in
+      record { permanent = eqb-true _ _ (p .0); scratch = eqb-true _ _ (q .0); map = eqb-true _ _ (r .0); written = eqb-true _ _ (r .1) }
 
   pub store-length : (a : ℕ) → length (storeOf m a) ≡ storeLength s a
   store-length a = cases (isScope a) (λ e. rw e (supplied-lengths .scratch)) (λ e. rw e (supplied-lengths .permanent))
 
   -- the same lengths fit
   pub fits-also : (n : Memory) → length (n .permanent) ≡ length (m .permanent) → length (n .scratch) ≡ length (m .scratch)
-      → length (n .map) ≡ length (m .map) → fits s n ≡ true
+      → length (n .map) ≡ length (m .map) → length (n .written) ≡ length (m .written) → fits s n ≡ true
   unfolding fits
-  fits-also n p q r = rw (p, q, r) f
+  fits-also n p q r w = rw (p, q, r, w) f
 
 module _ (s : State) (m : Memory) (g : Placed s) (f : fits s m ≡ true) (a : ℕ) (h : a < 64) (j : ℕ) (p : j < areaAt s a .size) where
   -- a word lies inside its store
   pub word-in : areaAt s a .start + j < length (storeOf m a)
   word-in = rw (store-length s m f a) (omega (arith, inside s g a h))
 
-  -- and its bit in a word of the map
+  -- and its bit in a word of either map
   pub bit-in : bitIndex s a j / 64 < length (m .map)
   bit-in = omega (arith, bit-inside s g a h j p, g .map, supplied-lengths s m f .map)
+
+  pub written-in : bitIndex s a j / 64 < length (m .written)
+  written-in = omega (arith, bit-inside s g a h j p, g .map, supplied-lengths s m f .written)
 
 -- ---- a store is replaced
 
@@ -142,4 +147,4 @@ module _ (m : Memory) (a : ℕ) (l : List ℕ) where
   store-fits s f e = fits-also s m f (withStore m a l)
       (cases (isScope a) (λ d. rw d) (λ d. rw d (rw d at e)))
       (cases (isScope a) (λ d. rw d (rw d at e)) (λ d. rw d))
-      refl
+      refl refl

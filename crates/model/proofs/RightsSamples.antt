@@ -40,15 +40,15 @@ unfolding statuses first site
 in-force = refl
 
 -- a load is lent no buffer: lent other lengths it is not refused by 1
-pub unsupplied : each (supplied first (record { permanent = []; scratch = []; map = [] })) (loadRights site ∷ loadRights [] ∷ start 0 2 ∷ []) ≡ 0 ∷ 23 ∷ 1 ∷ []
+pub unsupplied : each (supplied first (record { permanent = []; scratch = []; map = []; written = [] })) (loadRights site ∷ loadRights [] ∷ start 0 2 ∷ []) ≡ 0 ∷ 23 ∷ 1 ∷ []
 unfolding each first site
 unsupplied = refl
 
 -- what stands beside a load in the list means nothing: the memory that is kept stays, and the load counts
 pub beside : World
-beside = step first (record { call = loadRights site; supplied = other (record { permanent = []; scratch = []; map = [] }) })
+beside = step first (record { call = loadRights site; supplied = other (record { permanent = []; scratch = []; map = []; written = [] }) })
 
-pub beside-is : (suppliedTo (first .state) (first .memory) (loadRights site) (other (record { permanent = []; scratch = []; map = [] })) ≡ first .memory)
+pub beside-is : (suppliedTo (first .state) (first .memory) (loadRights site) (other (record { permanent = []; scratch = []; map = []; written = [] })) ≡ first .memory)
     × (beside .memory ≡ first .memory) × (beside .state .rights ≡ site)
 unfolding answer first site beside
 beside-is = (refl, refl, refl)

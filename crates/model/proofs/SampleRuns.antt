@@ -17,9 +17,9 @@ use Rattle.model.specs.SetUp.{standing, newThread, firstState}
 use Rattle.model.specs.Checks.{fits, fitted, called, hasRight, live, isObject, isReference, useRest}
 use Rattle.model.specs.Threads.{startRest, startState, endRest, endState}
 use Rattle.model.specs.Scopes.{makeRest, makeState, otherParent, generationsOut, enterRest, enteredArea, pushed, enterState, enterValue, exitRest, leftArea, popped, exitState, exitValue}
-use Rattle.model.specs.Objects.{allocateRest, allocateState, filled, objectWords, objectBits, allocateMemory, allocateValue}
+use Rattle.model.specs.Objects.{allocateRest, allocateState, filled, objectWords, objectBits, unwrittenBits, allocateMemory, allocateValue}
 use Rattle.model.specs.References.{mayRefer, storeAfter, slotRest, referenceRest, storeRest, loadRest}
-use Rattle.model.specs.Data.{dataRest, viewWords}
+use Rattle.model.specs.Data.{dataRest, writeMemory, readRest, viewWords}
 use Rattle.model.specs.Configuration.{anyStarted, loadRightsStatus, loadRightsState}
 use Rattle.model.specs.Calls.{Call, start, make, enter, allocate, Reply, outcomeOf}
 use Rattle.model.specs.Run.{World, kept, step, begin}
@@ -31,8 +31,8 @@ unfolding refuse handleOf offsetOf areaOf generationOf headerOf slotsOf dataOf d
     withArea withRow withThread withTaken withRights entriesOf innermost isMade displayHolds withStore firstState fits fitted called hasRight live isObject isReference useRest
     startRest startState endRest endState makeRest makeState otherParent generationsOut enterRest enteredArea pushed enterState enterValue
     exitRest leftArea popped exitState exitValue
-    allocateRest allocateState filled objectWords objectBits allocateMemory allocateValue mayRefer storeAfter slotRest referenceRest storeRest loadRest
-    dataRest viewWords anyStarted loadRightsStatus loadRightsState outcomeOf step begin
+    allocateRest allocateState filled objectWords objectBits unwrittenBits allocateMemory allocateValue mayRefer storeAfter slotRest referenceRest storeRest loadRest
+    dataRest writeMemory readRest viewWords anyStarted loadRightsStatus loadRightsState outcomeOf step begin
 answer w c = outcomeOf (w .state) (w .memory) c .reply
 
 unfoldable pub status : World → Call → ℕ
@@ -82,9 +82,9 @@ withState w s = record { state = s; memory = w .memory; trace = w .trace }
 abbrev pub copies : ℕ → ℕ → List ℕ
 copies n v = replicate n v
 
--- set-up with 3 words of heap, 6 of immortal and 12 of scratch; each word is 9 and each map bit is 1: "the lent words may hold anything"
+-- set-up with 3 words of heap, 6 of immortal and 12 of scratch; each word is 9 and each bit of both maps is 1: "the lent words may hold anything"
 unfoldable pub first : World
-first = begin 3 6 (record { permanent = copies 9 9; scratch = copies 12 9; map = copies 1 18446744073709551615 })
+first = begin 3 6 (record { permanent = copies 9 9; scratch = copies 12 9; map = copies 1 18446744073709551615; written = copies 1 18446744073709551615 })
 
 -- Thread 1 is ordinary, 2 real-time, 3 no-heap, as their kinds. Thread 2 is in immortal memory, then in scope 2 of 6 words, then in scope 3
 -- of 4 words. An object of 1 slot and 1 data word fills the heap; one of 2 and 2 is in immortal memory, one of 1 and 2 in scope 2, one of 1
@@ -110,6 +110,7 @@ busy = record {
     permanent = 16385 ∷ 0 ∷ 0 ∷ 32770 ∷ 0 ∷ 0 ∷ 0 ∷ 0 ∷ 9 ∷ [];
     scratch = 32769 ∷ 0 ∷ 0 ∷ 0 ∷ 9 ∷ 9 ∷ 1 ∷ 0 ∷ 9 ∷ 9 ∷ 9 ∷ 9 ∷ [];
     map = 18446744073709478665 ∷ [];
+    written = 18446744073709445376 ∷ [];
   };
   trace = [];
 }

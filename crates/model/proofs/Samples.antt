@@ -11,10 +11,10 @@ use Rattle.model.proofs.SampleRuns.{copies, statuses, values}
 
 -- 16 words each of heap and immortal, 32 of scratch; and the same with 4,096 of scratch
 first : World
-first = begin 16 16 (record { permanent = copies 32 0; scratch = copies 32 0; map = copies 1 0 })
+first = begin 16 16 (record { permanent = copies 32 0; scratch = copies 32 0; map = copies 1 0; written = copies 1 0 })
 
 wide : World
-wide = begin 16 16 (record { permanent = copies 32 0; scratch = copies 4096 0; map = copies 65 0 })
+wide = begin 16 16 (record { permanent = copies 32 0; scratch = copies 4096 0; map = copies 65 0; written = copies 65 0 })
 
 -- the last of a list of numbers
 last : List ℕ → ℕ

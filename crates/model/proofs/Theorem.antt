@@ -4,11 +4,12 @@ use Prim.Native.Nat.{ℕ, suc, _+_, _<_}
 use mathlib.Core.Bool.{true, false}
 use mathlib.Core.List.{List, [], _∷_}
 use mathlib.Core.Path.{_≡_, refl}
+use lib.ListN.{length}
 use mathlib.Core.Logic.{_⊎_, inl, inr, ⊎-elim}
 use Rattle.layout.specs.Choice.{cases}
 use Rattle.layout.specs.Handle.{offsetOf, areaOf}
 use Rattle.model.specs.State.{Memory, wordAt}
-use Rattle.model.specs.SetUp.{lengthsOf, setUpStatus}
+use Rattle.model.specs.SetUp.{lengthsOf, begins}
 use Rattle.model.specs.Checks.{fits, live}
 use Rattle.model.specs.Calls.{Call, isSupplied}
 use Rattle.model.specs.Run.{Supplied, kept, other, Element, Line, World, suppliedTo, step, run, begin}
@@ -24,7 +25,7 @@ use Rattle.model.proofs.MemoryClaims.{one-object, slot-holds, within, g
 use Rattle.model.proofs.Outcomes.{Transition, sound-line, lineFor, step-transition}
 use Rattle.model.proofs.Traces.{none-in, born, gone-run, among-some, area-below, open-area}
 use Rattle.model.proofs.Openings.{Opened, opened-first, opened-line}
-use Rattle.model.proofs.Stored.{Stored, stored-line}
+use Rattle.model.proofs.Stored.{Recorded, recorded-line}
 use Rattle.model.proofs.Configured.{InForce, in-force-first, in-force-line}
 use Rattle.model.proofs.LineClaims.{AllAnswer, line-answers, each-answers}
 
@@ -65,7 +66,7 @@ module _ (w : World) (e : Element) where
 record Told (w : World) : Type 0 where
   holds : Holds w
   since : (a : ℕ) (x : Object) → In x (historyOf (w .trace) .objects a) → Since (x .handle) a (w .trace)
-  stored : Stored (w .state) (w .memory) (w .trace)
+  recorded : Recorded (w .state) (w .memory) (historyOf (w .trace))
   opened : Opened (w .state) (w .trace)
   table : InForce (w .state) (w .trace)
   answers : AllAnswer (w .trace)
@@ -83,14 +84,18 @@ module _ (w : World) (e : Element) (o : Told w) where
       (λ k. made k)
       (born (historyOf (w .trace)) (line w e) a x (unfold historyFrom in (rw trace-is at i))))
 
+  step-recorded : Recorded (step w e .state) (step w e .memory) (historyOf (step w e .trace))
+  unfolding historyFrom
+  step-recorded = rw trace-is (recorded-line (w .state) (w .memory) (historyOf (w .trace)) (o .holds) (o .recorded) leads (rw trace-is at now))
+
   step-told : Told (step w e)
   step-told = record {
     holds = now;
     since = step-since;
-    stored = rw trace-is (stored-line (w .state) (w .memory) (w .trace) (o .holds) (o .stored) leads (rw trace-is at now));
+    recorded = step-recorded;
     opened = rw trace-is (opened-line (w .state) (w .memory) (w .trace) (o .holds) (o .opened) leads);
     table = rw trace-is (in-force-line (w .state) (w .memory) (w .trace) (o .table) leads);
-    answers = rw trace-is (line-answers (w .state) (w .memory) (w .trace) (o .holds) (o .stored) (o .opened) leads, o .answers);
+    answers = rw trace-is (line-answers (w .state) (w .memory) (w .trace) (o .holds) (o .recorded) (o .opened) (o .table) leads, o .answers);
   }
 
 run-told : (w : World) (es : List Element) → Told w → Told (run w es)
@@ -98,12 +103,12 @@ unfolding run
 run-told w [] o = o
 run-told w (e ∷ es) o = run-told (step w e) es (step-told w e o)
 
-begin-told : (h i : ℕ) (m : Memory) → setUpStatus h i (lengthsOf m) ≡ 0 → Told (begin h i m)
+begin-told : (h i : ℕ) (m : Memory) → begins h i m ≡ 0 → Told (begin h i m)
 unfolding begin historyFrom blank
 begin-told h i m e = record {
-  holds = sound-first h i m e (good-first h i (lengthsOf m) e) (same-first h i (lengthsOf m));
+  holds = sound-first h i m e (good-first h i (lengthsOf m) (length (m .written)) e) (same-first h i (lengthsOf m));
   since = λ a x k. absurd (none-in k);
-  stored = λ a x k. absurd (none-in k);
+  recorded = record { slots = λ a x k. absurd (none-in k); cells = λ a x k. absurd (none-in k) };
   opened = opened-first h i (lengthsOf m);
   table = in-force-first h i (lengthsOf m);
   answers = tt;
@@ -138,6 +143,7 @@ module _ (w : World) (o : Told w) where
   claimed : Claims w (historyOf (w .trace))
   claimed = record {
     started = started (w .state) b (sound .good) (sound .same);
+    kinds = sound .same .kinds;
     stacks = stacks (w .state) b (sound .good) (sound .same);
     opens = opens (w .state) b (sound .good) (sound .same);
     parents = parents (w .state) b (sound .good) (sound .same);
@@ -162,6 +168,7 @@ module _ (w : World) (o : Told w) where
     scanned = scanned (w .state) b (sound .good) (sound .same);
     loads = λ l before i. each-answers i (o .answers) .loads;
     loaded = λ l before i. each-answers i (o .answers) .loaded;
+    reads = λ l before i. each-answers i (o .answers) .reads;
     entries = λ l before i. each-answers i (o .answers) .entries;
     exits = λ l before i. each-answers i (o .answers) .exits;
     rights = o .table;
@@ -171,6 +178,6 @@ module _ (w : World) (o : Told w) where
 
 -- The one theorem: from an accepted set-up, with any contents of the lent words, after every list of calls. The list has loads of any text at any place,
 -- so this is "Soundness of references must hold under every loadable table", the table changing on the way included.
-pub every-list : (h i : ℕ) (m : Memory) → setUpStatus h i (lengthsOf m) ≡ 0 → (es : List Element)
+pub every-list : (h i : ℕ) (m : Memory) → begins h i m ≡ 0 → (es : List Element)
     → Claims (run (begin h i m) es) (historyOf (run (begin h i m) es .trace))
 every-list h i m e es = claimed (run (begin h i m) es) (run-told (begin h i m) es (begin-told h i m e))

@@ -13,7 +13,7 @@ use Rattle.layout.specs.Choice.{cases}
 use Rattle.model.specs.State.{State, Memory, current, isOpen}
 use Rattle.model.specs.Calls.{Call, start, end, make, enter, exit, allocate, store, write, asks, configure}
 use Rattle.model.specs.Run.{Element, Line, World, step, run}
-use Rattle.model.specs.History.{Object, History, threadRow, putAt, below, occurrences, handles, isScopeOnNone, historyStart, historyEnter, historyExit, historyAllocate, historyStep, historyLine, historyFrom, historyOf}
+use Rattle.model.specs.History.{Object, History, threadRow, putAt, below, occurrences, handles, isScopeOnNone, historyStart, historyEnter, historyExit, historyAllocate, historyWords, historyStep, historyLine, historyFrom, historyOf}
 use Rattle.model.specs.Claims.{Open, In, Among, Allocates}
 use Rattle.model.specs.Invariant.{countIn}
 use Rattle.model.proofs.Lists.{occ-same, occ-other}
@@ -74,7 +74,7 @@ module _ (b : History) (l : Line) (ok : l .reply .status ≡ 0) (a : ℕ) (x : O
 
   -- an object of the history has been there, or the line made it
   born-step : (c : Call) → l .call ≡ c → In x (historyStep b c (l .reply .value) .objects a) → Born
-  unfolding historyStart historyEnter
+  unfolding historyStart historyEnter historyWords
   born-step (start t p) e i = inl i
   born-step (end t) e i = inl i
   born-step (make t q r) e i = inl i
@@ -106,7 +106,7 @@ gone-exit b t x i =
     (λ e. rw e i)
 
 gone-step : (b : History) (c : Call) (v x : ℕ) → Among x (b .gone) → Among x (historyStep b c v .gone)
-unfolding historyStart historyEnter historyAllocate
+unfolding historyStart historyEnter historyAllocate historyWords
 gone-step b (start t p) v x i = i
 gone-step b (end t) v x i = i
 gone-step b (make t q r) v x i = i

@@ -1,7 +1,7 @@
--- What the words of specs/Values.antt say: each line of a trace follows the lines before it, a store is what is last stored, an opening is the
--- last opening, and what is refused changes nothing.
+-- What the words of specs/History.antt and specs/Values.antt say: each line of a trace follows the lines before it, a store is what is last stored, a
+-- write what is last written, an opening is the last opening, and what is refused changes nothing.
 -- Assumes nothing.
-use Prim.Native.Nat.{ℕ, _≤_}
+use Prim.Native.Nat.{ℕ, suc, _≤_}
 use mathlib.Core.List.{List, [], _∷_, _++_}
 use mathlib.Core.Path.{_≡_, refl, ap}
 use mathlib.Core.Logic.{_≢_}
@@ -10,34 +10,53 @@ use native.Mathlib.Omega.{arith}
 use borrow.Author.Tests.{eqb-true, eqb-false, eq-eqb, ne-eqb, le-leb}
 use Rattle.layout.specs.Choice.{cases}
 use Rattle.layout.specs.Handle.{null}
-use Rattle.model.specs.Calls.{Call, enter, allocate, store}
+use Rattle.model.specs.Calls.{Call, enter, allocate, store, write}
 use Rattle.model.specs.Run.{Line}
-use Rattle.model.specs.History.{total, historyOf}
-use Rattle.model.specs.Values.{storedStep, storedLine, lastStored, openingStep, openingLine, lastOpening}
+use Rattle.model.specs.History.{total, historyAllocate, historyWords, historyStep, historyLine, historyFrom, historyOf}
+use Rattle.model.specs.Values.{openingStep, openingLine, lastOpening}
 use Rattle.model.specs.Claims.{Open, Follows, newest, older}
+use Rattle.model.proofs.Memory.{put-same, put-word-own, put-word-other}
 
 pub follows-all : (ks ls : List Line) (l : Line) → Follows l ls (ks ++ (l ∷ ls))
 follows-all [] ls l = newest
 follows-all (k ∷ ks) ls l = older (follows-all ks ls l)
 
 module _ (l : Line) (ls : List Line) where
-  -- ---- stored words
+  -- ---- stored and written words
 
-  pub stored-accepted : l .reply .status ≡ 0 → (o i : ℕ) (c : Call) → l .call ≡ c → lastStored o i (l ∷ ls) ≡ storedStep o i (lastStored o i ls) c (l .reply .value)
-  unfolding lastStored storedLine
-  stored-accepted z o i c e = rw (eq-eqb (l .reply .status) 0 z) (ap (λ (d : Call). storedStep o i (lastStored o i ls) d (l .reply .value)) e)
+  -- an accepted line is a step of the history, a refused one is none
+  pub history-accepted : l .reply .status ≡ 0 → (c : Call) → l .call ≡ c → historyOf (l ∷ ls) ≡ historyStep (historyOf ls) c (l .reply .value)
+  unfolding historyFrom historyLine
+  history-accepted z c e = rw (eq-eqb (l .reply .status) 0 z) (ap (λ (d : Call). historyStep (historyOf ls) d (l .reply .value)) e)
 
-  -- right after an accepted store of r in slot q of p
-  pub stored-now : (t p q r : ℕ) → l .call ≡ store t p q r → l .reply .status ≡ 0 → lastStored p q (l ∷ ls) ≡ r
-  stored-now t p q r e z = rw (stored-accepted z p q (store t p q r) e, eq-eqb p p refl, eq-eqb q q refl)
+  pub history-refused : l .reply .status ≢ 0 → historyOf (l ∷ ls) ≡ historyOf ls
+  unfolding historyFrom historyLine
+  history-refused z = rw (ne-eqb (l .reply .status) 0 z)
+
+  -- right after an accepted store of r in slot q of p, and an accepted write of r as data word q
+  pub stored-now : (t p q r : ℕ) → l .call ≡ store t p q r → l .reply .status ≡ 0 → historyOf (l ∷ ls) .stored p q ≡ r
+  unfolding historyWords
+  stored-now t p q r e z = rw (history-accepted z (store t p q r) e) (put-word-own (historyOf ls .stored) p q r p q refl refl)
+
+  pub written-now : (t p q r : ℕ) → l .call ≡ write t p q r → l .reply .status ≡ 0 → historyOf (l ∷ ls) .written p q ≡ suc r
+  unfolding historyWords
+  written-now t p q r e z = rw (history-accepted z (write t p q r) e) (put-word-own (historyOf ls .written) p q (suc r) p q refl refl)
+
+  -- a write of another word, or of another object, leaves it
+  pub written-stays : (t p q r h i : ℕ) → l .call ≡ write t p q r → (h ≡ p → i ≡ q → ⊥) → historyOf (l ∷ ls) .written h i ≡ historyOf ls .written h i
+  unfolding historyWords
+  written-stays t p q r h i e n = cases (eqb (l .reply .status) 0)
+      (λ z. rw (history-accepted (eqb-true (l .reply .status) 0 z) (write t p q r) e) (put-word-other (historyOf ls .written) p q (suc r) h i n))
+      (λ z. rw (history-refused (eqb-false (l .reply .status) 0 z)))
 
   -- right after an accepted allocation that gave x
-  pub stored-none : (t q r x : ℕ) → l .call ≡ allocate t q r → l .reply .status ≡ 0 → l .reply .value ≡ x → (i : ℕ) → lastStored x i (l ∷ ls) ≡ null
-  stored-none t q r x e z v i = rw (stored-accepted z x i (allocate t q r) e, v, eq-eqb x x refl)
+  pub stored-none : (t q r x : ℕ) → l .call ≡ allocate t q r → l .reply .status ≡ 0 → l .reply .value ≡ x → (i : ℕ) → historyOf (l ∷ ls) .stored x i ≡ null
+  unfolding historyAllocate
+  stored-none t q r x e z v i = rw (history-accepted z (allocate t q r) e, v, put-same (historyOf ls .stored) x (λ (j : ℕ). null))
 
-  pub stored-refused : l .reply .status ≢ 0 → (o i : ℕ) → lastStored o i (l ∷ ls) ≡ lastStored o i ls
-  unfolding lastStored storedLine
-  stored-refused z o i = rw (ne-eqb (l .reply .status) 0 z)
+  pub written-none : (t q r x : ℕ) → l .call ≡ allocate t q r → l .reply .status ≡ 0 → l .reply .value ≡ x → (i : ℕ) → historyOf (l ∷ ls) .written x i ≡ 0
+  unfolding historyAllocate
+  written-none t q r x e z v i = rw (history-accepted z (allocate t q r) e, v, put-same (historyOf ls .written) x (λ (j : ℕ). 0))
 
   -- ---- openings
 

@@ -44,7 +44,7 @@ pub load-values : values busy
 unfolding values busy
 load-values = refl
 
--- "value: word": of an unwritten word, of two written ones; the slot beside them is still empty
+-- "value: word": of an unwritten word, which is refused, of two written ones; the slot beside them is still empty
 pub read-values : values busy
     (read 2 in2 0 ∷ write 2 in2 0 7 ∷ write 2 in2 1 18446744073709551615 ∷ read 2 in2 0 ∷ read 2 in2 1
     ∷ load 2 in2 0 ∷ write 2 inHeap 0 5 ∷ read 2 inHeap 0 ∷ [])

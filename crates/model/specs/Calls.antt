@@ -11,7 +11,7 @@ use Rattle.model.specs.Threads.{startChange, endChange}
 use Rattle.model.specs.Scopes.{makeChange, enterChange, exitChange}
 use Rattle.model.specs.Objects.{currentAt, allocateRest, allocateState, allocateMemory, allocateValue}
 use Rattle.model.specs.References.{storeAfter, wordAfter, storeRest, loadRest}
-use Rattle.model.specs.Data.{dataIndex, dataRest, viewRefusal, viewWords}
+use Rattle.model.specs.Data.{dataIndex, writeRest, writeMemory, readRest, viewRefusal, viewWords}
 use Rattle.model.specs.Configuration.{loadRightsChange}
 
 -- the calls that change nothing: ops 08 and 0a, the shown part and its status call
@@ -97,7 +97,7 @@ writing s status next = record { status = status; value = 0; words = []; state =
 -- call beside it yields the status": so the view answers 0 always, a refused view is seen only by its empty part, and the call beside it has the refusal.
 abbrev pub replyTo : State → Memory → Question → Reply
 replyTo s m (loads t p q) = record { status = admit s m t (loadRest s m t p q); value = wordAfter s m p q; words = [] }
-replyTo s m (reads t p q) = record { status = admit s m t (dataRest s m t p q); value = wordAfter s m p (dataIndex s m p q); words = [] }
+replyTo s m (reads t p q) = record { status = admit s m t (readRest s m t p q); value = wordAfter s m p (dataIndex s m p q); words = [] }
 replyTo s m (views t p) = record { status = 0; value = 0; words = viewWords s m t p }
 replyTo s m (viewsStatus t p) = record { status = viewRefusal s m t p; value = 0; words = [] }
 
@@ -124,7 +124,7 @@ effectOf s m (allocate t q r) = record {
   memory = allocateMemory s m (currentAt s t) q r;
 }
 effectOf s m (store t p q r) = writing s (admit s m t (storeRest s m t p q r)) (storeAfter s m p q r)
-effectOf s m (write t p q r) = writing s (admit s m t (dataRest s m t p q)) (storeAfter s m p (dataIndex s m p q) r)
+effectOf s m (write t p q r) = writing s (admit s m t (writeRest s m t p q)) (writeMemory s m p q r)
 effectOf s m (asks x) = asking s m (replyTo s m x)
 effectOf s m (configure x) = unsupplied s m (configuring s x)
 

@@ -13,11 +13,13 @@ use Rattle.rights.specs.declared.Right.{Right}
 use Rattle.rights.specs.declared.Right.the-variants.{Use}
 use Rattle.model.specs.State.{State, Memory, areaAt, threadAt, isOpen, wordAt, bitIndex}
 
--- "Every later call compares the three lengths."
+-- "Every later call compares the three lengths"; the written map is "shaped like the start map and covered by refusal 1", so its length is
+-- the start map's.
 unfoldable pub fits : State → Memory → Bool
 fits s m =
     eqb (length (m .permanent)) (s .lengths .permanent)
-    && (eqb (length (m .scratch)) (s .lengths .scratch) && eqb (length (m .map)) (s .lengths .map))
+    && (eqb (length (m .scratch)) (s .lengths .scratch)
+    && (eqb (length (m .map)) (s .lengths .map) && eqb (length (m .written)) (s .lengths .map)))
 
 -- "thread started and not ended": it has a kind
 abbrev pub isStarted : State → ℕ → Bool

@@ -1,5 +1,5 @@
--- What is claimed after every list of calls: the third demand, the values of loads, entries and exits, and the rights table in force. Each claim is a
--- field of one record.
+-- What is claimed after every list of calls: the third demand, what loads, reads, entries and exits answer, and the rights table in force. Each
+-- claim is a field of one record.
 -- Assumes nothing.
 use Prim.Native.Nat.{ℕ, suc, _+_, _≤_, _<_}
 use mathlib.Core.Bool.{Bool, true, false}
@@ -11,12 +11,13 @@ use lib.ListN.{length}
 use Rattle.layout.specs.Choice.{pick}
 use Rattle.layout.specs.Handle.{null, offsetOf, areaOf}
 use Rattle.rights.specs.Rights.{Loadable}
+use Rattle.rights.specs.declared.Right.the-variants.{Use}
 use Rattle.model.specs.State.{State, Memory, areaAt, threadAt, stackAt, current, isOpen, displayAt, displayHolds, storeOf, wordAt}
 use Rattle.model.specs.Checks.{isStarted, live}
-use Rattle.model.specs.Calls.{enter, exit, allocate, load, loadRights}
+use Rattle.model.specs.Calls.{enter, exit, allocate, load, read, loadRights}
 use Rattle.model.specs.Run.{Element, Line, World, run}
-use Rattle.model.specs.History.{Object, History, threadRow, occurrences, total, historyOf}
-use Rattle.model.specs.Values.{lastStored, entryGeneration, entriesLeft, loadAnswer, tableAfter}
+use Rattle.model.specs.History.{Object, History, startedIn, threadRow, occurrences, total, historyOf}
+use Rattle.model.specs.Values.{readStatus, readValue, entryGeneration, entriesLeft, loadAnswer, tableAfter, mayIn}
 
 -- ---- the words of the claims
 
@@ -106,7 +107,8 @@ pub data Follows (l : Line) (before : List Line) : List Line → Type 0 where
 -- live object, which would read as null (within).
 pub record Claims (w : World) (b : History) : Type 0 where
   -- 1. "The core has the book's started threads, stacks, open scopes and parents."
-  pub started : (t : ℕ) → isStarted (w .state) t ≡ b .started t
+  pub started : (t : ℕ) → isStarted (w .state) t ≡ startedIn b t
+  pub kinds : (t : ℕ) → threadAt (w .state) t .kind ≡ b .kinds t
   pub stacks : (t : ℕ) → stackAt (w .state) t ≡ threadRow b t
   pub opens : (a : ℕ) → 2 ≤ a → (isOpen (w .state) a ≡ true) ↔ Open b a
   pub parents : (a : ℕ) → areaAt (w .state) a .parent ≡ b .parents a
@@ -114,7 +116,7 @@ pub record Claims (w : World) (b : History) : Type 0 where
   pub displays : (a : ℕ) → Open b a → Walk (b .parents) a (displayAt (w .state) a)
   pub dropped : (a : ℕ) → isOpen (w .state) a ≡ false → displayAt (w .state) a ≡ []
   -- "2 to 63 scopes. Threads are 0 to 15."
-  pub threads : (t : ℕ) → b .started t ≡ true → t < 16
+  pub threads : (t : ℕ) → startedIn b t ≡ true → t < 16
   pub scopes : (a : ℕ) → Open b a → a < 64
   -- "A stack has at most 32 entries."
   pub heights : (t : ℕ) → length (threadRow b t) ≤ 32
@@ -143,7 +145,14 @@ pub record Claims (w : World) (b : History) : Type 0 where
   pub loads : (l : Line) (before : List Line) → Follows l before (w .trace) → (t p q : ℕ) → l .call ≡ load t p q → l .reply .status ≢ 15
   -- 8. The values, by the lines before. A load gives the word last stored in that slot since the object was made, null if none.
   pub loaded : (l : Line) (before : List Line) → Follows l before (w .trace) → (t p q : ℕ) → l .call ≡ load t p q
-      → l .reply .status ≡ 0 → l .reply .value ≡ lastStored p q before
+      → l .reply .status ≡ 0 → l .reply .value ≡ historyOf before .stored p q
+  -- "a read of a live handle, not refused by 1" or 2, "by a thread with right U, at an index below d, must give the last word accepted for that
+  -- handle and index, or 19 if there is none" since the object was made.
+  pub reads : (l : Line) (before : List Line) → Follows l before (w .trace) → (t p q : ℕ) → l .call ≡ read t p q
+      → l .reply .status ≢ 1 → l .reply .status ≢ 2
+      → (a : ℕ) (o : Object) → In o (historyOf before .objects a) → o .handle ≡ p → q < o .dataWords
+      → mayIn before t Use a ≡ true
+      → (l .reply .status ≡ readStatus (historyOf before .written p q)) × (l .reply .value ≡ readValue (historyOf before .written p q))
   -- An entry that opens a scope gives one more than its last opening gave, 1 if there was none; another entry of it gives what its opening gave;
   -- one of heap or immortal gives 1.
   pub entries : (l : Line) (before : List Line) → Follows l before (w .trace) → (t q : ℕ) → l .call ≡ enter t q

@@ -11,7 +11,7 @@ use Rattle.layout.specs.Header.{headerOf}
 use Rattle.bitmap.specs.Bitmap.{withBit, cleared}
 use Rattle.rights.specs.declared.Right.the-variants.{Allocate}
 use Rattle.model.specs.declared.Area.{Area}
-use Rattle.model.specs.State.{State, Memory, areaAt, withUsed, withArea, stackAt, current, storeOf, withMap, withStore, bitIndex}
+use Rattle.model.specs.State.{State, Memory, areaAt, withUsed, withArea, stackAt, current, storeOf, withMap, withWritten, withStore, bitIndex}
 use Rattle.model.specs.Checks.{called, hasRight}
 
 -- the area that a thread allocates in
@@ -46,10 +46,18 @@ objectWords l at slots dataWords = set (filled l (suc at) (slots + dataWords) 0)
 unfoldable pub objectBits : List ℕ → ℕ → ℕ → List ℕ
 objectBits map at n = withBit (cleared map (suc at) n) at
 
+-- "allocation clears it for the object's words": of the written map, for header, slots and data alike
+unfoldable pub unwrittenBits : List ℕ → ℕ → ℕ → List ℕ
+unwrittenBits written at n = cleared written at (suc n)
+
+-- both maps, for an object of n words beside its header whose header has bit number at
+abbrev pub objectMaps : Memory → ℕ → ℕ → Memory
+objectMaps m at n = withWritten (withMap m (objectBits (m .map) at n)) (unwrittenBits (m .written) at n)
+
 -- "Allocation takes the area's next words, sets slots and data to 0, sets the map bit of the header and clears those of its other words."
 unfoldable pub allocateMemory : State → Memory → ℕ → ℕ → ℕ → Memory
 allocateMemory s m a slots dataWords =
-    withStore (withMap m (objectBits (m .map) (bitIndex s a (areaAt s a .used)) (slots + dataWords)))
+    withStore (objectMaps m (bitIndex s a (areaAt s a .used)) (slots + dataWords))
     a (objectWords (storeOf m a) (areaAt s a .start + areaAt s a .used) slots dataWords)
 
 -- "value: handle"

@@ -6,7 +6,7 @@ use mathlib.Core.List.{List, [], _∷_}
 use mathlib.Core.Path.{_≡_}
 use Rattle.layout.specs.Choice.{pick}
 use Rattle.model.specs.State.{State, Memory}
-use Rattle.model.specs.SetUp.{lengthsOf, setUpStatus, firstState}
+use Rattle.model.specs.SetUp.{lengthsOf, begins, firstState}
 use Rattle.model.specs.Checks.{fits}
 use Rattle.model.specs.Calls.{Call, isSupplied, Reply, Outcome, outcomeOf}
 
@@ -61,6 +61,6 @@ pub record Reached (w : World) : Type 0 where
   pub heap : ℕ
   pub immortal : ℕ
   pub memory : Memory
-  pub accepted : setUpStatus heap immortal (lengthsOf memory) ≡ 0
+  pub accepted : begins heap immortal memory ≡ 0
   pub elements : List Element
   pub run-is : w ≡ run (begin heap immortal memory) elements

@@ -11,17 +11,23 @@ use Rattle.model.specs.declared.Area.{Area}
 use Rattle.model.specs.declared.Lengths.{Lengths}
 use Rattle.model.specs.State.{Thread, State, Memory, noArea}
 
--- the lengths of the buffers that are lent
+-- the lengths that set-up keeps; the written map has the length of the start map, which is not kept twice
 abbrev pub lengthsOf : Memory → Lengths
 lengthsOf m = record { permanent = length (m .permanent); scratch = length (m .scratch); map = length (m .map) }
 
--- "It is refused by 1 unless h + i = P, P and S are each at most 16,384, and the map has exactly (P + S + 63) / 64 words, rounded down."
-unfoldable pub setUpStatus : ℕ → ℕ → Lengths → ℕ
-setUpStatus h i n =
+-- "It is refused by 1 unless h + i = P, P and S are each at most 16,384, and the map has exactly (P + S + 63) / 64 words, rounded down." The
+-- written map, of k words, is "shaped like the start map and covered by refusal 1".
+unfoldable pub setUpStatus : ℕ → ℕ → Lengths → ℕ → ℕ
+setUpStatus h i n k =
     refuse (not (eqb (h + i) (n .permanent))) 1
     (refuse (ltb 16384 (n .permanent)) 1
     (refuse (ltb 16384 (n .scratch)) 1
-    (refuse (not (eqb (n .map) ((n .permanent + n .scratch + 63) / 64))) 1 0)))
+    (refuse (not (eqb (n .map) ((n .permanent + n .scratch + 63) / 64))) 1
+    (refuse (not (eqb k (n .map))) 1 0))))
+
+-- of the buffers that are lent
+abbrev pub begins : ℕ → ℕ → Memory → ℕ
+begins h i m = setUpStatus h i (lengthsOf m) (length (m .written))
 
 -- heap and immortal: "both always have turn 1"
 abbrev pub standing : ℕ → ℕ → Area
@@ -43,5 +49,5 @@ firstState h i n = record {
 }
 
 -- "A refused set-up gives the state of an accepted one with all lengths 0. Set-up writes no word."
-unfoldable pub setUpState : ℕ → ℕ → Lengths → State
-setUpState h i n = pick (eqb (setUpStatus h i n) 0) (firstState h i n) (firstState 0 0 (record { permanent = 0; scratch = 0; map = 0 }))
+unfoldable pub setUpState : ℕ → ℕ → Lengths → ℕ → State
+setUpState h i n k = pick (eqb (setUpStatus h i n k) 0) (firstState h i n) (firstState 0 0 (record { permanent = 0; scratch = 0; map = 0 }))

@@ -30,11 +30,12 @@ pub record State : Type 0 where
   pub rights : List ℕ
 
 -- "Three buffers of 64-bit words: the permanent store of P words (heap first, then immortal), the scratch store of S words (scopes), and
--- the start map."
+-- the start map." "The host lends a written map, shaped like the start map": the fourth.
 pub record Memory : Type 0 where
   pub permanent : List ℕ
   pub scratch : List ℕ
   pub map : List ℕ
+  pub written : List ℕ
 
 -- ---- parts of a state
 
@@ -172,15 +173,23 @@ storeLength s a = pick (isScope a) (s .lengths .scratch) (s .lengths .permanent)
 -- ---- a memory with a part replaced
 
 abbrev pub withMap : Memory → List ℕ → Memory
-withMap m l = record { permanent = m .permanent; scratch = m .scratch; map = l }
+withMap m l = record { permanent = m .permanent; scratch = m .scratch; map = l; written = m .written }
+
+abbrev pub withWritten : Memory → List ℕ → Memory
+withWritten m l = record { permanent = m .permanent; scratch = m .scratch; map = m .map; written = l }
 
 unfoldable pub withStore : Memory → ℕ → List ℕ → Memory
-withStore m a l = record { permanent = pick (isScope a) (m .permanent) l; scratch = pick (isScope a) l (m .scratch); map = m .map }
+withStore m a l = record {
+  permanent = pick (isScope a) (m .permanent) l;
+  scratch = pick (isScope a) l (m .scratch);
+  map = m .map;
+  written = m .written;
+}
 
 -- word o of area a
 abbrev pub wordAt : State → Memory → ℕ → ℕ → ℕ
 wordAt s m a o = getD (storeOf m a) (areaAt s a .start + o) 0
 
--- "permanent words count first, then scratch words": the map bit of word o of area a
+-- "permanent words count first, then scratch words": the bit of word o of area a in the start map, and in the written map
 abbrev pub bitIndex : State → ℕ → ℕ → ℕ
 bitIndex s a o = pick (isScope a) (s .lengths .permanent) 0 + (areaAt s a .start + o)

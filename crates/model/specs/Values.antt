@@ -1,43 +1,30 @@
--- What the lines so far say of a value to come: the word that a load gives, the generation that an entry gives, the entries that an exit leaves; what
--- a load of rights answers, and which rights table is in force.
+-- What the lines so far say of an answer to come: what a read answers, the generation that an entry gives, the entries that an exit leaves; what
+-- a load of rights answers, which rights table is in force, and which rights a thread has by it.
 -- Assumes nothing.
-use Prim.Native.Nat.{ℕ, suc}
-use mathlib.Core.Bool.{not, _&&_}
+use Prim.Native.Nat.{ℕ, zero, suc}
+use mathlib.Core.Bool.{Bool, not, _&&_}
 use mathlib.Core.List.{List, [], _∷_}
 use lib.Dec.{eqb}
 use Rattle.layout.specs.Choice.{pick, refuse}
 use Rattle.layout.specs.Below.{someBelow}
-use Rattle.layout.specs.Handle.{null}
-use Rattle.rights.specs.Rights.{builtIn, isTable}
+use Rattle.rights.specs.Rights.{builtIn, classOf, allows, isTable}
+use Rattle.rights.specs.declared.Right.{Right}
 use Rattle.model.specs.State.{current, isScope}
 use Rattle.model.specs.Calls.{Call, start, end, make, enter, exit, allocate, store, write, asks, Configuration, rightsTable, configure}
 use Rattle.model.specs.Run.{Line}
-use Rattle.model.specs.History.{History, threadRow, total, isScopeOnNone, historyExit, historyOf}
+use Rattle.model.specs.History.{History, startedIn, threadRow, total, isScopeOnNone, historyExit, historyOf}
 
--- ---- op 08: "value: stored word"
+-- ---- op 0a: "value: word"
 
--- slot i of object o holds w, then a call is accepted with value v. "store reference (p object, q slot, r target)" puts r in that slot; an
--- allocation that gives o makes it anew, "sets slots .. to 0".
-abbrev pub storedStep : ℕ → ℕ → ℕ → Call → ℕ → ℕ
-storedStep o i w (start t p) v = w
-storedStep o i w (end t) v = w
-storedStep o i w (make t q r) v = w
-storedStep o i w (enter t q) v = w
-storedStep o i w (exit t) v = w
-storedStep o i w (allocate t q r) v = pick (eqb v o) null w
-storedStep o i w (store t p q r) v = pick (eqb p o && eqb q i) r w
-storedStep o i w (write t p q r) v = w
-storedStep o i w (asks x) v = w
-storedStep o i w (configure x) v = w
+-- what a read answers by the data word as last written, 0 if it never was: "the last word accepted for that handle and index, or 19 if there is
+-- none"
+abbrev pub readStatus : ℕ → ℕ
+readStatus zero = 19
+readStatus (suc v) = 0
 
--- a refused call changes nothing
-unfoldable pub storedLine : ℕ → ℕ → ℕ → Line → ℕ
-storedLine o i w l = pick (eqb (l .reply .status) 0) (storedStep o i w (l .call) (l .reply .value)) w
-
--- the word last stored in slot i of object o since it was made, null if none; the newest line is the first
-unfoldable pub lastStored : ℕ → ℕ → List Line → ℕ
-lastStored o i [] = null
-lastStored o i (l ∷ ls) = storedLine o i (lastStored o i ls) l
+abbrev pub readValue : ℕ → ℕ
+readValue zero = 0
+readValue (suc v) = v
 
 -- ---- op 04: "value: turn"
 
@@ -79,7 +66,7 @@ entriesLeft b t = pick (isScope (current (threadRow b t))) (total (current (thre
 -- what a load of a text answers after the history b: "23 when there are not 36 digits or they break these rules, first. 24 when any thread is
 -- started, after 23."
 unfoldable pub loadAnswer : History → List ℕ → ℕ
-loadAnswer b text = refuse (not (isTable text)) 23 (refuse (someBelow (b .started) 16) 24 0)
+loadAnswer b text = refuse (not (isTable text)) 23 (refuse (someBelow (startedIn b) 16) 24 0)
 
 -- ---- the rights table
 
@@ -108,3 +95,7 @@ tableLine table l = pick (eqb (l .reply .status) 0) (tableStep table (l .call)) 
 unfoldable pub tableAfter : List Line → List ℕ
 tableAfter [] = builtIn
 tableAfter (l ∷ ls) = tableLine (tableAfter ls) l
+
+-- whether a thread has a right in area a, by the lines: the kind that it was started with, and the table in force
+unfoldable pub mayIn : List Line → ℕ → Right → ℕ → Bool
+mayIn ls t right a = allows (tableAfter ls) (historyOf ls .kinds t) (classOf a) right

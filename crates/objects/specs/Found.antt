@@ -8,17 +8,18 @@ use lib.Dec.{leb}
 use Rattle.layout.specs.Choice.{pick, refuse}
 use Rattle.layout.specs.Handle.{offsetOf, areaOf}
 use Rattle.layout.specs.Header.{slotsOf, dataOf}
-use Rattle.model.specs.State.{State, Memory, areaAt}
+use Rattle.model.specs.State.{State, Memory, areaAt, bitIndex}
 use Rattle.model.specs.Checks.{headerAt, live, isObject, isReference}
 use Rattle.objects.specs.declared.find.Resolved.{Resolved}
 use Rattle.objects.specs.declared.find.Found.{Found}
 use Rattle.objects.specs.declared.find.Found.the-variants.{At, Nothing}
 
--- the object that a live handle leads to: its header lies at the handle's offset in the handle's area, and says its sizes
+-- the object that a live handle leads to: its header lies at the handle's offset in the handle's area, has its bit in the maps, and says its sizes
 unfoldable pub objectOf : State → Memory → ℕ → Resolved
 objectOf s m h = record {
   area = areaOf h;
   at = areaAt s (areaOf h) .start + offsetOf h;
+  bit = bitIndex s (areaOf h) (offsetOf h);
   slots = slotsOf (headerAt s m h);
   data_words = dataOf (headerAt s m h);
 }
@@ -38,9 +39,9 @@ pub record RefusedAs (s : State) (m : Memory) (h : ℕ) (r : Found) : Type 0 whe
   pub as-object : refusalOf 13 r ≡ refuse (not (isObject s m h)) 13 0
   pub as-reference : h ≢ 0 → refusalOf 15 r ≡ refuse (not (isReference s m h)) 15 0
 
--- the object of a header at an offset, where it "ends within the used words"
+-- the object of a header, where it "ends within the used words", of which so many are left from the header on
 unfoldable pub endsOf : ℕ → ℕ → ℕ → ℕ → ℕ → Found
-endsOf header area at offset used =
-    pick (leb (suc (offset + slotsOf header + dataOf header)) used)
-    (At (record { area = area; at = at; slots = slotsOf header; data_words = dataOf header }))
+endsOf header area at bit left =
+    pick (leb (suc (slotsOf header + dataOf header)) left)
+    (At (record { area = area; at = at; bit = bit; slots = slotsOf header; data_words = dataOf header }))
     Nothing

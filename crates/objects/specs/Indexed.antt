@@ -1,10 +1,10 @@
 -- The answer of a check of a word of an object: where the word lies, or the number of the refusal.
 -- Assumes nothing.
-use Prim.Native.Nat.{ℕ}
+use Prim.Native.Nat.{ℕ, suc, _+_}
 use mathlib.Core.Path.{_≡_, refl}
 use native.Mathlib.Omega.{arith}
-use Rattle.layout.specs.Handle.{areaOf}
-use Rattle.model.specs.State.{State, Memory}
+use Rattle.layout.specs.Handle.{offsetOf, areaOf}
+use Rattle.model.specs.State.{State, Memory, bitIndex}
 use Rattle.model.specs.References.{placeAfter, slotRest}
 use Rattle.model.specs.Data.{dataRest, dataIndex}
 use Rattle.objects.specs.declared.find.Resolved.{Resolved}
@@ -24,19 +24,23 @@ abbrev pub partStart : Part → Resolved → ℕ
 partStart Slots o = 0
 partStart Data o = o .slots
 
--- "14: slot or data index not below s or d", after 13 and 5
-abbrev pub indexRest : Part → State → Memory → ℕ → ℕ → ℕ → ℕ
-indexRest Slots s m t p q = slotRest s m t p q 0
-indexRest Data s m t p q = dataRest s m t p q
+-- "14: slot or data index not below s or d", after 13 and 5, and before the rest of a call's refusals
+abbrev pub indexRest : Part → State → Memory → ℕ → ℕ → ℕ → ℕ → ℕ
+indexRest Slots s m t p q rest = slotRest s m t p q rest
+indexRest Data s m t p q rest = dataRest s m t p q rest
 
 -- which of the words after the header is word q of a part
 abbrev pub wordIndex : Part → State → Memory → ℕ → ℕ → ℕ
 wordIndex Slots s m p q = q
 wordIndex Data s m p q = dataIndex s m p q
 
--- where it lies
+-- where it lies, and its bit in the maps
 unfoldable pub wordOf : Part → State → Memory → ℕ → ℕ → WordPlace
-wordOf part s m p q = record { area = areaOf p; at = placeAfter s p (wordIndex part s m p q) }
+wordOf part s m p q = record {
+  area = areaOf p;
+  at = placeAfter s p (wordIndex part s m p q);
+  bit = bitIndex s (areaOf p) (suc (offsetOf p + wordIndex part s m p q));
+}
 
 -- the number of each case
 abbrev pub numberOf : Indexed → ℕ

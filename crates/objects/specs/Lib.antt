@@ -1,4 +1,5 @@
 -- The definitions that the contracts cite, and the laws that callers use of them.
+pub mod Fits
 pub mod Found
 pub mod Places
 pub mod Steps

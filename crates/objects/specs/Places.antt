@@ -1,7 +1,8 @@
 -- Where the words of an area lie in the lent memory, and what a live handle has passed.
 -- Assumes nothing.
 use Prim.Native.Nat.{ℕ, suc, _+_, _*_, _≤_, _<_}
-use mathlib.Core.Bool.{true, false, _||_}
+use mathlib.Core.Bool.{Bool, true, false, _||_}
+use mathlib.Core.List.{List}
 use mathlib.Core.Path.{_≡_, refl, sym, _∙_}
 use native.Mathlib.Omega.{arith}
 use lib.Dec.{eqb, leb, ltb}
@@ -13,15 +14,21 @@ use Rattle.layout.specs.HandleLaws.{area-lt, slots-lt, data-lt}
 use Rattle.layout.specs.Header.{slotsOf, dataOf}
 use Rattle.bitmap.specs.Bitmap.{bitAt}
 use Rattle.model.specs.State.{State, Memory, areaAt, isScope, isOpen, storeOf, bitIndex}
-use Rattle.model.specs.Checks.{fits, headerAt, live, isObject, isReference}
+use Rattle.model.specs.Checks.{headerAt, live, isObject, isReference}
 use Rattle.model.specs.Invariant.{Good}
-use Rattle.model.proofs.PlacedWords.{inside, SuppliedLengths, supplied-lengths}
+use Rattle.model.proofs.PlacedWords.{inside}
 use Rattle.objects.specs.declared.find.Resolved.{Resolved}
 use Rattle.objects.specs.declared.find.Found.{Found}
 use Rattle.objects.specs.declared.find.Found.the-variants.{At, Nothing}
+use Rattle.objects.specs.Fits.{StoresFitIn}
 use Rattle.objects.specs.Found.{objectOf, foundOf, RefusedAs}
 
 -- ---- the words of an area
+
+-- the bits before those of a store are no more than the permanent words
+pub pick-most : (b : Bool) (n : ℕ) → pick b n 0 ≤ n
+pick-most true n = omega arith
+pick-most false n = omega arith
 
 -- where the words of area a lie: in its store, and in the map from a bit on
 pub record AreaWords (s : State) (m : Memory) (a : ℕ) : Type 0 where
@@ -31,27 +38,24 @@ pub record AreaWords (s : State) (m : Memory) (a : ℕ) : Type 0 where
   pub first : s .lengths .permanent ≤ 16384
   pub bits : pick (isScope a) (s .lengths .permanent) 0 + (areaAt s a .start + areaAt s a .size) ≤ 64 * length (m .map)
 
-pub area-words : (s : State) (m : Memory) → Good s → fits s m ≡ true → (a : ℕ) → a < 64 → AreaWords s m a
+pub area-words : (s : State) (m : Memory) → Good s → StoresFitIn s m → (a : ℕ) → a < 64 → AreaWords s m a
 area-words s m g f a k =
     cases (leb 2 a)
     (λ e. let b = rw e at (inside s p a k) in record {
       used = p .used a k;
-      words = rw e (omega (arith, b, l .scratch));
+      words = rw e (omega (arith, b, f .scratch-is));
       low = omega (arith, b, p .scratch);
       first = p .permanent;
-      bits = rw e (omega (arith, b, p .map, l .map));
+      bits = rw e (omega (arith, b, p .map, f .map-is));
     })
     (λ e. let b = rw e at (inside s p a k) in record {
       used = p .used a k;
-      words = rw e (omega (arith, b, l .permanent));
+      words = rw e (omega (arith, b, f .permanent-is));
       low = omega (arith, b, p .permanent);
       first = p .permanent;
-      bits = rw e (omega (arith, b, p .map, l .map));
+      bits = rw e (omega (arith, b, p .map, f .map-is));
     })
   where
-    l : SuppliedLengths s m f
-    l = supplied-lengths s m f
-
     p : Rattle.model.specs.Invariant.Placed s
     p = g .placed
 
@@ -144,27 +148,31 @@ object-live s m p g =
     (λ e. rw e refl)
 
 -- the numbers of what a lookup finds are those of refusals 13 and 15
-pub refused-as : (s : State) (m : Memory) (h : ℕ) → Good s → {r : Found} → r ≡ foundOf s m h → (r ≡ foundOf s m h) × RefusedAs s m h r
+number-is : (s : State) (m : Memory) (h : ℕ) → Good s → {r : Found} → r ≡ foundOf s m h → RefusedAs s m h r
 unfolding foundOf refuse isReference
-refused-as s m h g e = (
-  e,
-  record {
-    as-object = rw (e, object-live s m h g) (cases (live s m h) (λ k. rw k) (λ k. rw k));
-    as-reference = λ n. rw (e, ne-eqb h 0 n) (cases (live s m h) (λ k. rw k) (λ k. rw k));
-  },
-)
+number-is s m h g e = record {
+  as-object = rw (e, object-live s m h g) (cases (live s m h) (λ k. rw k) (λ k. rw k));
+  as-reference = λ n. rw (e, ne-eqb h 0 n) (cases (live s m h) (λ k. rw k) (λ k. rw k));
+}
+
+-- whatever the written map is
+pub refused-as : (s : State) (m : List ℕ → Memory) (h : ℕ) → Good s → {r : Found} → ((x : List ℕ) → r ≡ foundOf s (m x) h)
+    → ((x : List ℕ) → r ≡ foundOf s (m x) h) × ((x : List ℕ) → RefusedAs s (m x) h r)
+refused-as s m h g e = (e, λ x. number-is s (m x) h g (e x))
 
 -- ---- the object that a handle leads to
 
--- where an object lies: the words of its header, slots and data are words of its store
+-- where an object lies: the words of its header, slots and data are words of its store, and have their bits in the map
 pub record Lies (m : Memory) (o : Resolved) : Type 0 where
   pub area : o .area < 64
   pub slots : o .slots < 16384
   pub words : o .data_words < 16384
   pub low : suc (o .at + o .slots + o .data_words) ≤ 16384
   pub inside : suc (o .at + o .slots + o .data_words) ≤ length (storeOf m (o .area))
+  pub bits-low : suc (o .bit + o .slots + o .data_words) ≤ 32768
+  pub bits : suc (o .bit + o .slots + o .data_words) ≤ 64 * length (m .map)
 
-pub lies : (s : State) (m : Memory) (h : ℕ) → Good s → fits s m ≡ true → live s m h ≡ true → Lies m (objectOf s m h)
+pub lies : (s : State) (m : Memory) (h : ℕ) → Good s → StoresFitIn s m → live s m h ≡ true → Lies m (objectOf s m h)
 unfolding objectOf
 lies s m h g f e =
     let l = live-ok s m h e in
@@ -175,4 +183,6 @@ lies s m h g f e =
       words = data-lt (headerAt s m h);
       low = omega (arith, l .whole, w .used, w .low);
       inside = omega (arith, l .whole, w .used, w .words);
+      bits-low = omega (arith, l .whole, w .used, w .low, w .first, pick-most (isScope (areaOf h)) (s .lengths .permanent));
+      bits = omega (arith, l .whole, w .used, w .bits);
     }

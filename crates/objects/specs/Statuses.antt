@@ -2,7 +2,7 @@
 -- Assumes nothing.
 use Prim.Native.Nat.{ℕ, _≤_, _<_}
 use mathlib.Core.Bool.{true, false, not}
-use mathlib.Core.Path.{_≡_, refl, sym, ap, _∙_}
+use mathlib.Core.Path.{_≡_, refl, sym, ap, _∙_, subst, fun-ext}
 use mathlib.Core.Logic.{_≢_}
 use lib.Dec.{leb}
 use borrow.Author.Tests.{leb-false, le-leb, lt-leb}
@@ -77,28 +77,32 @@ module _ (s : State) (m : Memory) (t p : ℕ) where
 -- ---- refusal 14; n is what check_object answers
 
 -- both parts have the same chain, over how many words the part has
-index-rest : (part : Part) (s : State) (m : Memory) (t p q : ℕ)
-    → indexRest part s m t p q ≡ useRest s m t p (refuse (leb (partCount part (objectOf s m p)) q) 14 0)
+index-rest : (part : Part) (s : State) (m : Memory) (t p q rest : ℕ)
+    → indexRest part s m t p q rest ≡ useRest s m t p (refuse (leb (partCount part (objectOf s m p)) q) 14 rest)
 unfolding slotRest dataRest objectOf
-index-rest Slots s m t p q = refl
-index-rest Data s m t p q = refl
+index-rest Slots s m t p q rest = refl
+index-rest Data s m t p q rest = refl
 
 module _ (part : Part) (s : State) (m : Memory) (t p q : ℕ) where
-  pub index-not-used : {n : ℕ} → n ≡ useRest s m t p 0 → n ≢ 0 → n ≡ indexRest part s m t p q
-  index-not-used e h = e ∙ sym (index-rest part s m t p q ∙ use-chain s m t p .stops (λ z. h (e ∙ z)) _)
+  pub index-chain : Chain (indexRest part s m t p q)
+  index-chain = subst Chain (fun-ext (λ rest. sym (index-rest part s m t p q rest)))
+      (chain-more (useRest s m t p) (leb (partCount part (objectOf s m p)) q) 13 (use-chain s m t p))
+
+  pub index-not-used : {n : ℕ} → n ≡ useRest s m t p 0 → n ≢ 0 → n ≡ indexRest part s m t p q 0
+  index-not-used e h = e ∙ sym (index-rest part s m t p q 0 ∙ use-chain s m t p .stops (λ z. h (e ∙ z)) _)
 
   module _ (z : useRest s m t p 0 ≡ 0) (o : Resolved) (e : o ≡ objectOf s m p) where
-    past-use : refuse (leb (partCount part o) q) 14 0 ≡ indexRest part s m t p q
-    past-use = rw e (sym (index-rest part s m t p q ∙ use-chain s m t p .passes z _))
+    past-use : refuse (leb (partCount part o) q) 14 0 ≡ indexRest part s m t p q 0
+    past-use = rw e (sym (index-rest part s m t p q 0 ∙ use-chain s m t p .passes z _))
 
-    pub index-past : partCount part o ≤ q → 14 ≡ indexRest part s m t p q
+    pub index-past : partCount part o ≤ q → 14 ≡ indexRest part s m t p q 0
     index-past h = sym (hit (leb (partCount part o) q) 14 0 (le-leb (partCount part o) q h)) ∙ past-use
 
-    pub index-in : q < partCount part o → 0 ≡ indexRest part s m t p q
+    pub index-in : q < partCount part o → 0 ≡ indexRest part s m t p q 0
     index-in h = sym (skip (leb (partCount part o) q) 14 0 (lt-leb (partCount part o) q h)) ∙ past-use
 
   -- what an accepted call has passed
-  pub index-ok : indexRest part s m t p q ≡ 0 → UseOk s m t p × (q < partCount part (objectOf s m p))
+  pub index-ok : indexRest part s m t p q 0 ≡ 0 → UseOk s m t p × (q < partCount part (objectOf s m p))
   index-ok z =
-      let a = use-ok s m t p _ (sym (index-rest part s m t p q) ∙ z) in
+      let a = use-ok s m t p _ (sym (index-rest part s m t p q 0) ∙ z) in
       (a .0, leb-false (partCount part (objectOf s m p)) q (peel _ _ _ (a .1) .0))

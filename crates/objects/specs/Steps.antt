@@ -1,7 +1,6 @@
 -- One law for each way that a lookup ends, over what its code has read.
 -- Assumes nothing.
-use Prim.Native.Nat.{ℕ, suc, _+_, _/_, _≤_, _<_}
-use mathlib.Core.Bool.{Bool, true, false}
+use Prim.Native.Nat.{ℕ, suc, _+_, _-_, _/_, _≤_, _<_}
 use mathlib.Core.List.{List}
 use mathlib.Core.Path.{_≡_, refl, sym, ap, _∙_}
 use native.Mathlib.Omega.{arith}
@@ -15,34 +14,36 @@ use Rattle.layout.specs.Header.{slotsOf, dataOf}
 use Rattle.bitmap.specs.Bitmap.{bitAt}
 use Rattle.model.specs.declared.Area.{Area}
 use Rattle.model.specs.State.{State, Memory, areaAt, isScope, storeOf, bitIndex}
-use Rattle.model.specs.Checks.{fits, headerAt}
+use Rattle.model.specs.Checks.{headerAt}
 use Rattle.model.specs.Invariant.{Good}
 use Rattle.tables.specs.Decode.{stateOf}
 use Rattle.tables.specs.Contract.{Ready}
 use Rattle.objects.specs.declared.find.Found.the-variants.{At, Nothing}
+use Rattle.objects.specs.Fits.{StoresFitIn}
 use Rattle.objects.specs.Found.{objectOf, foundOf, endsOf}
-use Rattle.model.proofs.PlacedWords.{supplied-lengths}
-use Rattle.objects.specs.Places.{AreaWords, area-words, found-at, found-nothing}
+use Rattle.objects.specs.Places.{pick-most, AreaWords, area-words, found-at, found-nothing}
 
 -- ---- the last step
 
-module _ (n a at o u : ℕ) where
-  pub ends-at : o + slotsOf n + dataOf n < u → At (record { area = a; at = at; slots = slotsOf n; data_words = dataOf n }) ≡ endsOf n a at o u
+module _ (n a at b u : ℕ) where
+  pub ends-at : slotsOf n + dataOf n < u → At (record { area = a; at = at; bit = b; slots = slotsOf n; data_words = dataOf n }) ≡ endsOf n a at b u
   unfolding endsOf
-  ends-at k = sym (pick-true (leb (suc (o + slotsOf n + dataOf n)) u) _ _ (le-leb (suc (o + slotsOf n + dataOf n)) u (omega arith)))
+  ends-at k = sym (pick-true (leb (suc (slotsOf n + dataOf n)) u) _ _ (le-leb (suc (slotsOf n + dataOf n)) u (omega arith)))
 
-  pub ends-out : u ≤ o + slotsOf n + dataOf n → Nothing ≡ endsOf n a at o u
+  pub ends-out : u ≤ slotsOf n + dataOf n → Nothing ≡ endsOf n a at b u
   unfolding endsOf
-  ends-out k = sym (pick-false (leb (suc (o + slotsOf n + dataOf n)) u) _ _ (lt-leb (suc (o + slotsOf n + dataOf n)) u (omega arith)))
+  ends-out k = sym (pick-false (leb (suc (slotsOf n + dataOf n)) u) _ _ (lt-leb (suc (slotsOf n + dataOf n)) u (omega arith)))
 
 ends-found : (s : State) (m : Memory) (h : ℕ) → Good s
     → generationOf h ≡ areaAt s (areaOf h) .generation → offsetOf h < areaAt s (areaOf h) .used → bitAt (m .map) (bitIndex s (areaOf h) (offsetOf h)) ≡ 1
-    → endsOf (headerAt s m h) (areaOf h) (areaAt s (areaOf h) .start + offsetOf h) (offsetOf h) (areaAt s (areaOf h) .used) ≡ foundOf s m h
+    → endsOf (headerAt s m h) (areaOf h) (areaAt s (areaOf h) .start + offsetOf h) (bitIndex s (areaOf h) (offsetOf h)) (areaAt s (areaOf h) .used - offsetOf h)
+    ≡ foundOf s m h
 unfolding endsOf objectOf
 ends-found s m h g e u b =
-    cases (leb (suc (offsetOf h + slotsOf (headerAt s m h) + dataOf (headerAt s m h))) (areaAt s (areaOf h) .used))
-    (λ k. rw k (found-at s m h g (record { generation = e; used = u; bit = b; whole = leb-true (suc (offsetOf h + slotsOf (headerAt s m h) + dataOf (headerAt s m h))) (areaAt s (areaOf h) .used) k })))
-    (λ k. rw k (found-nothing s m h (λ l. omega (arith, l .whole, leb-false (suc (offsetOf h + slotsOf (headerAt s m h) + dataOf (headerAt s m h))) (areaAt s (areaOf h) .used) k))))
+    let n = headerAt s m h in
+    cases (leb (suc (slotsOf n + dataOf n)) (areaAt s (areaOf h) .used - offsetOf h))
+    (λ k. rw k (found-at s m h g (record { generation = e; used = u; bit = b; whole = omega (arith, leb-true (suc (slotsOf n + dataOf n)) (areaAt s (areaOf h) .used - offsetOf h) k) })))
+    (λ k. rw k (found-nothing s m h (λ l. omega (arith, l .whole, leb-false (suc (slotsOf n + dataOf n)) (areaAt s (areaOf h) .used - offsetOf h) k))))
 
 -- a bit that is not 0 is 1
 bit-one : (l : List ℕ) (w : ℕ) → (bitAt l w ≡ 0 → ⊥) → bitAt l w ≡ 1
@@ -51,14 +52,10 @@ bit-one l w n = omega arith
 
 -- ---- the steps
 
-pub pick-most : (b : Bool) (n : ℕ) → pick b n 0 ≤ n
-pick-most true n = omega arith
-pick-most false n = omega arith
-
 -- what the code has read: the handle's area and offset, and the area's record
 pub record HandleRead (w b : List ℕ) (m : Memory) (h a o : ℕ) (x : Area) : Type 0 where
   pub ready : Ready w b
-  pub fitting : fits (stateOf w b) m ≡ true
+  pub fitting : StoresFitIn (stateOf w b) m
   pub area-is : a ≡ areaOf h
   pub offset-is : o ≡ offsetOf h
   pub record-is : x ≡ areaAt (stateOf w b) a
@@ -84,7 +81,7 @@ module _ (w b : List ℕ) (m : Memory) (h a o : ℕ) (x : Area) (d : HandleRead 
     word-low = omega (arith, in-area .used, in-area .low, ap (λ (y : Area). y .start) here, ap (λ (y : Area). y .used) here)
 
     pub bit-low : length (m .permanent) + (x .start + o) < 65536
-    bit-low = omega (arith, word-low, in-area .first, supplied-lengths (stateOf w b) m (d .fitting) .permanent)
+    bit-low = omega (arith, word-low, in-area .first, d .fitting .permanent-is)
 
     pub word-in : x .start + o < length (storeOf m a)
     word-in = rw (d .area-is)
@@ -92,7 +89,7 @@ module _ (w b : List ℕ) (m : Memory) (h a o : ℕ) (x : Area) (d : HandleRead 
 
     module _ (i : ℕ) (e : i ≡ pick (isScope a) (length (m .permanent)) 0 + (x .start + o)) where
       index-is : i ≡ bitIndex (stateOf w b) (areaOf h) (offsetOf h)
-      index-is = e ∙ rw (d .area-is, d .offset-is, supplied-lengths (stateOf w b) m (d .fitting) .permanent, ap (λ (y : Area). y .start) here) refl
+      index-is = e ∙ rw (d .area-is, d .offset-is, d .fitting .permanent-is, ap (λ (y : Area). y .start) here) refl
 
       pub bit-fits : i < 65536
       bit-fits = omega (arith, bit-low, e, pick-most (isScope a) (length (m .permanent)))
@@ -104,8 +101,8 @@ module _ (w b : List ℕ) (m : Memory) (h a o : ℕ) (x : Area) (d : HandleRead 
       no-bit z = found-nothing (stateOf w b) m h (λ l. omega (arith, l .bit, z, ap (bitAt (m .map)) index-is))
 
       pub ends : generationOf h ≡ x .generation → (bitAt (m .map) i ≡ 0 → ⊥)
-          → endsOf (getD (storeOf m a) (x .start + o) 0) a (x .start + o) o (x .used) ≡ foundOf (stateOf w b) m h
-      ends g z = rw (here, d .area-is, d .offset-is)
+          → endsOf (getD (storeOf m a) (x .start + o) 0) a (x .start + o) i (x .used - o) ≡ foundOf (stateOf w b) m h
+      ends g z = rw (index-is, here, d .area-is, d .offset-is)
           (ends-found (stateOf w b) m h (d .ready .good)
           (g ∙ ap (λ (y : Area). y .generation) here)
           (omega (arith, k, d .offset-is, ap (λ (y : Area). y .used) here))

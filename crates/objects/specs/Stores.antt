@@ -37,9 +37,9 @@ pub stored-scratch : (p s : List ℕ) (a : ℕ) (f : List ℕ → List ℕ) → 
 stored-scratch p s a f h = record { permanent-is = rw (le-leb 2 a h); scratch-is = rw (le-leb 2 a h) }
 
 -- the memory that they make
-pub stored-memory : {p′ s′ p s l : List ℕ} {a : ℕ} → StoreWritten p′ s′ p s a l → (m : List ℕ) → memoryOf p′ s′ m ≡ withStore (memoryOf p s m) a l
+pub stored-memory : {p′ s′ p s l : List ℕ} {a : ℕ} → StoreWritten p′ s′ p s a l → (m x : List ℕ) → memoryOf p′ s′ m x ≡ withStore (memoryOf p s m x) a l
 unfolding withStore
-stored-memory z m = rw (z .permanent-is, z .scratch-is) refl
+stored-memory z m x = rw (z .permanent-is, z .scratch-is) refl
 
 -- an object that is written: its words in a store, of which x is the header, and its bits in the map
 pub object-written : (l : List ℕ) (at slots dataWords : ℕ) {x : ℕ} → slots < 16384 → dataWords < 16384 → x ≡ headerOf (slots % 16384) (dataWords % 16384)

@@ -4,16 +4,15 @@ use layout::handle;
 use tables::Bytes;
 use tables::Words;
 ghost use mathlib.Core.Path.{_≡_};
-ghost use Prim.Native.Nat.{_<_};
-ghost use Rattle.tables.specs.Contract.{before, supplied};
-ghost use Rattle.objects.specs.Found.{foundOf, RefusedAs, endsOf};
-ghost use Rattle.objects.specs.Resolving.{Fitting};
+ghost use Rattle.objects.specs.Found.{endsOf};
+ghost use Rattle.objects.specs.Resolving.{Fitting, Finds, Numbers};
 
-// An object that a handle resolves to: its area, the place of its header in its store, its slots and how
-// many data words it has.
+// An object that a handle resolves to: its area, the place of its header in its store and its bit in the maps, its
+// slots and how many data words it has.
 pub struct Resolved {
     pub area: u64,
     pub at: usize,
+    pub bit: usize,
     pub slots: u64,
     pub data_words: u64,
 }
@@ -23,19 +22,20 @@ pub enum Found {
     Nothing,
 }
 
-// The object that a header at an offset heads, where its last word is a used one.
-fn whole(header: u64, area: u64, at: usize, offset: u64, used: u64) -> Found
-    requires { ⌜ offset < 16384 ⌝ }
-    ensures { λ r. ⌜ r ≡ endsOf header area at offset used ⌝ }
+// The object that a header heads, where as many used words are left from it on as it takes. So that the offset need not
+// be kept, the caller tells what is left.
+fn whole(header: u64, area: u64, at: usize, bit: usize, left: u64) -> Found
+    ensures { λ r. ⌜ r ≡ endsOf header area at bit left ⌝ }
 {
     let slots = handle::slots(header);
     let data_words = handle::data_words(header);
-    if used <= offset + slots + data_words {
+    if left <= slots + data_words {
         return Found::Nothing;
     }
     Found::At(Resolved {
         area,
         at,
+        bit,
         slots,
         data_words,
     })
@@ -52,8 +52,8 @@ pub fn lookup<'a>(
     handle: u64,
 ) -> Found
     requires { ⌜ Fitting words bytes permanent scratch map ⌝ }
-    ensures found { λ r. ⌜ r ≡ foundOf (before words bytes) (supplied permanent scratch map) handle ⌝ }
-    ensures number { λ r. ⌜ RefusedAs (before words bytes) (supplied permanent scratch map) handle r ⌝ }
+    ensures found { λ r. ⌜ Finds r words bytes permanent scratch map handle ⌝ }
+    ensures number { λ r. ⌜ Numbers r words bytes permanent scratch map handle ⌝ }
 {
     let area = handle::area(handle);
     let offset = handle::offset(handle);
@@ -67,10 +67,12 @@ pub fn lookup<'a>(
     if used <= offset {
         return Found::Nothing;
     }
+    let left = used - offset;
     let at = (x.start + offset) as usize;
-    if bitmap::bit(map, first + at) == 0 {
+    let bit = first + at;
+    if bitmap::bit(map, bit) == 0 {
         return Found::Nothing;
     }
     let header = store[at];
-    whole(header, area, at, offset, used)
+    whole(header, area, at, bit, left)
 }

@@ -14,10 +14,11 @@ pub enum Part {
     Data,
 }
 
-// A word of an object: its area and its place in the store that has the area's words.
+// A word of an object: its area, its place in the store that has the area's words, and its bit in the maps.
 pub struct WordPlace {
     pub area: u64,
     pub at: usize,
+    pub bit: usize,
 }
 
 // The word of a call, or the refusal of the call.
@@ -60,7 +61,7 @@ pub fn check_index<'a>(
     q: u64,
 ) -> Indexed
     requires { ⌜ Admissible words bytes permanent scratch map t ⌝ }
-    ensures { λ r. ⌜ Indexes r words bytes permanent scratch map p part q (λ s m. indexRest part s m t p q) ⌝ }
+    ensures { λ r. ⌜ Indexes r words bytes permanent scratch map p part q (λ s m. indexRest part s m t p q 0) ⌝ }
 {
     match check::check_object(words, bytes, permanent, scratch, map, t, p) {
         Checked::Refused(n) => Indexed::Refused(n),
@@ -68,8 +69,12 @@ pub fn check_index<'a>(
             if count(o, part) <= q {
                 return Indexed::Refused(14);
             }
-            let at = o.at + 1 + (first(o, part) + q) as usize;
-            Indexed::At(WordPlace { area: o.area, at })
+            let k = (first(o, part) + q) as usize;
+            Indexed::At(WordPlace {
+                area: o.area,
+                at: o.at + k + 1,
+                bit: o.bit + k + 1,
+            })
         }
     }
 }

@@ -9,13 +9,14 @@ use Rattle.reader.specs.declared.feed.Fed.{Fed}
 use Rattle.reader.specs.Held.{Core, core, LineAnswered, Ended, held, Feeds, Finishes}
 
 -- the tables and the lent buffers
-module _ (words bytes permanent scratch map : Borrowed) where
+module _ (words bytes permanent scratch map written : Borrowed) where
   -- the core that was given, and the core that is left
   abbrev pub coreIn : Core
-  coreIn = core (now (words .entry)) (now (bytes .entry)) (now (permanent .entry)) (now (scratch .entry)) (now (map .entry))
+  coreIn =
+      core (now (words .entry)) (now (bytes .entry)) (now (permanent .entry)) (now (scratch .entry)) (now (map .entry)) (now (written .entry))
 
   abbrev pub coreOut : Core
-  coreOut = core (now (words .exit)) (now (bytes .exit)) (now (permanent .exit)) (now (scratch .exit)) (now (map .exit))
+  coreOut = core (now (words .exit)) (now (bytes .exit)) (now (permanent .exit)) (now (scratch .exit)) (now (map .exit)) (now (written .exit))
 
   module _ (line : Borrowed) (len : ℕ) where
     -- a line of len bytes was answered by a

@@ -16,21 +16,22 @@ use Rattle.lines.specs.Lines.{Buffered}
 use Rattle.reader.specs.Feeding.{Feeding, after, fed, finished, fed-none, fed-append}
 use Rattle.lines.specs.AnswerLaws.{sets-sets}
 
--- the tables and the three lent buffers
+-- the tables and the four lent buffers
 pub record Core : Type 0 where
   pub words : List ℕ
   pub bytes : List ℕ
   pub permanent : List ℕ
   pub scratch : List ℕ
   pub map : List ℕ
+  pub written : List ℕ
 
-abbrev pub core : List ℕ → List ℕ → List ℕ → List ℕ → List ℕ → Core
-core w b p s m = record { words = w; bytes = b; permanent = p; scratch = s; map = m }
+abbrev pub core : List ℕ → List ℕ → List ℕ → List ℕ → List ℕ → List ℕ → Core
+core w b p s m x = record { words = w; bytes = b; permanent = p; scratch = s; map = m; written = x }
 
 -- they hold the state and the memory of a world
 pub record Represents (k : Core) (w : World) : Type 0 where
   pub state : stateOf (k .words) (k .bytes) ≡ w .state
-  pub memory : memoryOf (k .permanent) (k .scratch) (k .map) ≡ w .memory
+  pub memory : memoryOf (k .permanent) (k .scratch) (k .map) (k .written) ≡ w .memory
 
 -- a line is answered
 pub record LineAnswered (k n : Core) (line : List ℕ) (len : ℕ) (a : Answer) : Type 0 where

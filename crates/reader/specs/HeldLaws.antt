@@ -34,7 +34,7 @@ use Rattle.reader.specs.Held.{Core, core, Represents, LineAnswered, Ende
 
 -- the world that tables and buffers hold
 represented : (k : Core) (w : World) → Represents k w
-    → w ≡ record { state = stateOf (k .words) (k .bytes); memory = memoryOf (k .permanent) (k .scratch) (k .map); trace = w .trace }
+    → w ≡ record { state = stateOf (k .words) (k .bytes); memory = memoryOf (k .permanent) (k .scratch) (k .map) (k .written); trace = w .trace }
 represented k w s = rw (s .state, s .memory) refl
 
 -- ---- a line answered
@@ -61,8 +61,8 @@ answered-bad k line len r y e m = record {
 -- a frame's call is carried out, as the core promises of a call of any op
 pub answered-frame : (k n : Core) (line : List ℕ) (len : ℕ) (r : Parsed) (f : Fields) (a : Answer) → r ≡ Frame f
     → ((l : List ℕ) → Buffered line len l → r ≡ parsedOf l)
-    → Answered (k .words) (k .bytes) (memoryOf (k .permanent) (k .scratch) (k .map)) (frameCall f)
-    (plain (a .status) (a .value)) (n .words) (n .bytes) (memoryOf (n .permanent) (n .scratch) (n .map))
+    → Answered (k .words) (k .bytes) (memoryOf (k .permanent) (k .scratch) (k .map) (k .written)) (frameCall f)
+    (plain (a .status) (a .value)) (n .words) (n .bytes) (memoryOf (n .permanent) (n .scratch) (n .map) (n .written))
     → LineAnswered k n line len a
 unfolding lineAnswer afterLine
 answered-frame k n line len r f a e m d = record {
@@ -160,29 +160,32 @@ finishes-rest k n line len out written d q z = record {
 
 -- ---- the beginning
 
-accepted : (n : Lengths) → n .permanent ≡ 2048 → n .scratch ≡ 4096 → n .map ≡ 96 → setUpState 1024 1024 n ≡ firstState 1024 1024 n
+accepted : (n : Lengths) (k : ℕ) → n .permanent ≡ 2048 → n .scratch ≡ 4096 → n .map ≡ 96 → k ≡ 96 → setUpState 1024 1024 n k ≡ firstState 1024 1024 n
 unfolding setUpState
-accepted n p s m =
-    pick-true (eqb (setUpStatus 1024 1024 n) 0) _ _
-    (eq-eqb (setUpStatus 1024 1024 n) 0 (sym (prepared 1024 1024 n (sym p) (omega arith) (omega arith) (rw (p, s, m) refl))))
+accepted n k p s m x =
+    pick-true (eqb (setUpStatus 1024 1024 n k) 0) _ _
+    (eq-eqb (setUpStatus 1024 1024 n k) 0 (sym (prepared 1024 1024 n k (sym p) (omega arith) (omega arith) (rw (p, s, m) refl) (x ∙ sym m))))
 
-begun-represents : (status : ℕ) (w b p s m : List ℕ) → length p ≡ 2048 → length s ≡ 4096 → length m ≡ 96
-    → Begun status w b 1024 1024 (lengthsOf (memoryOf p s m)) → Represents (core w b p s m) (begin 1024 1024 (memoryOf p s m))
+begun-represents : (status : ℕ) (w b p s m x : List ℕ) → length p ≡ 2048 → length s ≡ 4096 → length m ≡ 96 → length x ≡ 96
+    → Begun status w b 1024 1024 (memoryOf p s m x) → Represents (core w b p s m x) (begin 1024 1024 (memoryOf p s m x))
 unfolding begin
-begun-represents status w b p s m hp hs hm g =
-    record { state = g .holds .state ∙ accepted (lengthsOf (memoryOf p s m)) hp hs hm; memory = refl }
+begun-represents status w b p s m x hp hs hm hx g =
+    record { state = g .holds .state ∙ accepted (lengthsOf (memoryOf p s m x)) (length x) hp hs hm hx; memory = refl }
 
-first-is : (p s m : List ℕ) → p ≡ replicate 2048 0 → s ≡ replicate 4096 0 → m ≡ replicate 96 0 → begin 1024 1024 (memoryOf p s m) ≡ firstWorld
+first-is : (p s m x : List ℕ) → p ≡ replicate 2048 0 → s ≡ replicate 4096 0 → m ≡ replicate 96 0 → x ≡ replicate 96 0
+    → begin 1024 1024 (memoryOf p s m x) ≡ firstWorld
 unfolding firstWorld
-first-is p s m e f g =
-    ap (λ (x : List ℕ). begin 1024 1024 (memoryOf x s m)) e
-    ∙ ap (λ (x : List ℕ). begin 1024 1024 (memoryOf (replicate 2048 0) x m)) f
-    ∙ ap (λ (x : List ℕ). begin 1024 1024 (memoryOf (replicate 2048 0) (replicate 4096 0) x)) g
+first-is p s m x e f g h =
+    ap (λ (y : List ℕ). begin 1024 1024 (memoryOf y s m x)) e
+    ∙ ap (λ (y : List ℕ). begin 1024 1024 (memoryOf (replicate 2048 0) y m x)) f
+    ∙ ap (λ (y : List ℕ). begin 1024 1024 (memoryOf (replicate 2048 0) (replicate 4096 0) y x)) g
+    ∙ ap (λ (y : List ℕ). begin 1024 1024 (memoryOf (replicate 2048 0) (replicate 4096 0) (replicate 96 0) y)) h
 
 -- what set-up gives on buffers of zeros holds the first world
-pub first-represents : (status : ℕ) (w b p s m : List ℕ) → p ≡ replicate 2048 0 → s ≡ replicate 4096 0 → m ≡ replicate 96 0
-    → Begun status w b 1024 1024 (lengthsOf (memoryOf p s m)) → Represents (core w b p s m) firstWorld
-first-represents status w b p s m e f g h =
-    subst (λ (x : World). Represents (core w b p s m) x) (first-is p s m e f g)
-    (begun-represents status w b p s m
-    (ap length e ∙ length-replicate {A = ℕ} 2048 0) (ap length f ∙ length-replicate {A = ℕ} 4096 0) (ap length g ∙ length-replicate {A = ℕ} 96 0) h)
+pub first-represents : (status : ℕ) (w b p s m x : List ℕ) → p ≡ replicate 2048 0 → s ≡ replicate 4096 0 → m ≡ replicate 96 0 → x ≡ replicate 96 0
+    → Begun status w b 1024 1024 (memoryOf p s m x) → Represents (core w b p s m x) firstWorld
+first-represents status w b p s m x e f g h d =
+    subst (λ (y : World). Represents (core w b p s m x) y) (first-is p s m x e f g h)
+    (begun-represents status w b p s m x
+    (ap length e ∙ length-replicate {A = ℕ} 2048 0) (ap length f ∙ length-replicate {A = ℕ} 4096 0) (ap length g ∙ length-replicate {A = ℕ} 96 0)
+    (ap length h ∙ length-replicate {A = ℕ} 96 0) d)

@@ -50,7 +50,7 @@ answersOf w (l ∷ ls) = lineAnswer w l ++ answersOf (afterLine w l) ls
 
 -- "runs with h = i = 1,024, S = 4,096"; the buffers hold 0 at first
 unfoldable pub firstWorld : World
-firstWorld = begin 1024 1024 (record { permanent = replicate 2048 0; scratch = replicate 4096 0; map = replicate 96 0 })
+firstWorld = begin 1024 1024 (record { permanent = replicate 2048 0; scratch = replicate 4096 0; map = replicate 96 0; written = replicate 96 0 })
 
 -- what the program writes for an input
 unfoldable pub outputOf : List ℕ → List ℕ

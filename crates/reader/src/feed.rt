@@ -25,11 +25,12 @@ fn answer_line(
     permanent: &mut [u64],
     scratch: &mut [u64],
     map: &mut [u64],
+    written: &mut [u64],
     line: &Text,
     len: usize,
 ) -> Answer
     requires { ⌜ (Ready (now words) (now bytes)) × (length (now line) ≡ 40) ⌝ }
-    ensures { λ r. ⌜ LineReplied words bytes permanent scratch map line len r ⌝ }
+    ensures { λ r. ⌜ LineReplied words bytes permanent scratch map written line len r ⌝ }
 {
     let Parsed::Frame(f) = lines::frame::parse_line(line, len) else {
         return Answer {
@@ -44,6 +45,7 @@ fn answer_line(
         permanent,
         scratch,
         map,
+        written,
         op,
         f.thread,
         f.p,
@@ -59,15 +61,16 @@ fn end_line(
     permanent: &mut [u64],
     scratch: &mut [u64],
     map: &mut [u64],
+    written: &mut [u64],
     line: &Text,
     len: usize,
     output: &mut [u8],
     at: usize,
 )
     requires { ⌜ (Ready (now words) (now bytes)) × (length (now line) ≡ 40) × (at + 19 ≤ length (now output)) ⌝ }
-    ensures { λ r. ⌜ LineEnded words bytes permanent scratch map line len output at ⌝ }
+    ensures { λ r. ⌜ LineEnded words bytes permanent scratch map written line len output at ⌝ }
 {
-    let a = answer_line(words, bytes, permanent, scratch, map, line, len);
+    let a = answer_line(words, bytes, permanent, scratch, map, written, line, len);
     lines::answer::write_answer(output, at, a.status, a.value);
 }
 
@@ -78,6 +81,7 @@ fn feed_byte(
     permanent: &mut [u64],
     scratch: &mut [u64],
     map: &mut [u64],
+    written: &mut [u64],
     line: &mut Text,
     len: usize,
     b: u8,
@@ -85,10 +89,21 @@ fn feed_byte(
     at: usize,
 ) -> Fed
     requires { ⌜ (Ready (now words) (now bytes)) × (length (now line) ≡ 40) × (at + 19 ≤ length (now output)) ⌝ }
-    ensures { λ r. ⌜ BytesFed words bytes permanent scratch map line len output at (b ∷ []) r ⌝ }
+    ensures { λ r. ⌜ BytesFed words bytes permanent scratch map written line len output at (b ∷ []) r ⌝ }
 {
     if b == b'\n' {
-        end_line(words, bytes, permanent, scratch, map, line, len, output, at);
+        end_line(
+            words,
+            bytes,
+            permanent,
+            scratch,
+            map,
+            written,
+            line,
+            len,
+            output,
+            at,
+        );
         return Fed {
             len: 0,
             written: at + 19,
@@ -107,13 +122,14 @@ pub fn feed(
     permanent: &mut [u64],
     scratch: &mut [u64],
     map: &mut [u64],
+    written: &mut [u64],
     line: &mut Text,
     len: usize,
     input: &[u8],
     output: &mut [u8],
 ) -> Fed
     requires { ⌜ (Ready (now words) (now bytes)) × (length (now line) ≡ 40) × (19 * length (now input) ≤ length (now output)) ⌝ }
-    ensures { λ r. ⌜ BytesFed words bytes permanent scratch map line len output 0 (now (input .entry)) r ⌝ }
+    ensures { λ r. ⌜ BytesFed words bytes permanent scratch map written line len output 0 (now (input .entry)) r ⌝ }
 {
     let mut n = len;
     let mut at = 0;
@@ -125,6 +141,7 @@ pub fn feed(
             permanent,
             scratch,
             map,
+            written,
             line,
             n,
             input[i],
@@ -148,16 +165,28 @@ pub fn finish(
     permanent: &mut [u64],
     scratch: &mut [u64],
     map: &mut [u64],
+    written: &mut [u64],
     line: &Text,
     len: usize,
     output: &mut [u8],
 ) -> usize
     requires { ⌜ (Ready (now words) (now bytes)) × (length (now line) ≡ 40) × (19 ≤ length (now output)) ⌝ }
-    ensures { λ r. ⌜ InputEnded words bytes permanent scratch map line len output r ⌝ }
+    ensures { λ r. ⌜ InputEnded words bytes permanent scratch map written line len output r ⌝ }
 {
     if len == 0 {
         return 0;
     }
-    end_line(words, bytes, permanent, scratch, map, line, len, output, 0);
+    end_line(
+        words,
+        bytes,
+        permanent,
+        scratch,
+        map,
+        written,
+        line,
+        len,
+        output,
+        0,
+    );
     19
 }

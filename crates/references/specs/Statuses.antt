@@ -5,16 +5,15 @@ use mathlib.Core.Bool.{true, false, not, _||_, true≢false}
 use mathlib.Core.List.{List}
 use mathlib.Core.Path.{_≡_, sym, ap, _∙_}
 use mathlib.Core.Logic.{_≢_}
-use lib.Dec.{eqb, leb}
+use lib.Dec.{eqb}
 use borrow.Author.Tests.{eqb-true, le-leb, lt-leb, lt-ltb, le-ltb, eq-eqb, ne-eqb}
 use Rattle.layout.specs.Choice.{refuse, cases, hit, skip}
 use Rattle.layout.specs.Handle.{null, areaOf}
-use Rattle.layout.specs.Header.{slotsOf}
 use Rattle.layout.specs.Display.{rowHolds}
 use Rattle.rights.specs.declared.Right.the-variants.{Refer}
 use Rattle.model.specs.declared.Area.{Area}
 use Rattle.model.specs.State.{State, Memory, areaAt, displayHolds}
-use Rattle.model.specs.Checks.{hasRight, headerAt, isReference, useRest}
+use Rattle.model.specs.Checks.{hasRight, isReference}
 use Rattle.model.specs.References.{mayRefer, wordAfter, slotRest, referenceRest, storeRest, loadRest}
 use Rattle.tables.specs.Decode as decode
 use Rattle.tables.specs.Laws.{area-read, row-read}
@@ -23,13 +22,8 @@ use Rattle.objects.specs.declared.find.Found.the-variants.{At, Nothing}
 use Rattle.objects.specs.Found.{foundOf}
 use Rattle.objects.specs.Places.{at-live, nothing-live}
 use Rattle.objects.specs.Chains.{Chain, chain-none, chain-more, chain-passed}
-use Rattle.objects.specs.Statuses.{found-area, use-chain}
-
--- ---- refusals 13, 5 and 14
-
-slot-chain : (s : State) (m : Memory) (t p q : ℕ) → Chain (slotRest s m t p q)
-unfolding slotRest
-slot-chain s m t p q = chain-more (useRest s m t p) (leb (slotsOf (headerAt s m p)) q) 13 (use-chain s m t p)
+use Rattle.objects.specs.declared.index.Part.the-variants.{Slots}
+use Rattle.objects.specs.Statuses.{found-area, index-chain}
 
 -- ---- refusals 15 and 5: a target or a loaded word
 
@@ -91,20 +85,20 @@ module _ (s : State) (m : Memory) (t p q : ℕ) where
   module _ (r : ℕ) where
     pub store-no-slot : {n : ℕ} → n ≡ slotRest s m t p q 0 → n ≢ 0 → n ≡ storeRest s m t p q r
     unfolding storeRest
-    store-no-slot e h = e ∙ sym (slot-chain s m t p q .stops (λ z. h (e ∙ z)) _)
+    store-no-slot e h = e ∙ sym (index-chain Slots s m t p q .stops (λ z. h (e ∙ z)) _)
 
     pub store-slot : storeRest s m t p q r ≡ 0 → slotRest s m t p q 0 ≡ 0
     unfolding storeRest
-    store-slot = chain-passed (slot-chain s m t p q) _
+    store-slot = chain-passed (index-chain Slots s m t p q) _
 
     module _ (z : slotRest s m t p q 0 ≡ 0) where
       pub store-no-reference : {n : ℕ} → n ≡ referenceRest s m t r 0 → n ≢ 0 → n ≡ storeRest s m t p q r
       unfolding storeRest
-      store-no-reference e h = e ∙ sym (slot-chain s m t p q .passes z _ ∙ reference-chain s m t r .stops (λ y. h (e ∙ y)) _)
+      store-no-reference e h = e ∙ sym (index-chain Slots s m t p q .passes z _ ∙ reference-chain s m t r .stops (λ y. h (e ∙ y)) _)
 
       module _ (y : referenceRest s m t r 0 ≡ 0) where
         last : (rest : ℕ) → slotRest s m t p q (referenceRest s m t r rest) ≡ rest
-        last rest = slot-chain s m t p q .passes z _ ∙ reference-chain s m t r .passes y rest
+        last rest = index-chain Slots s m t p q .passes z _ ∙ reference-chain s m t r .passes y rest
 
         pub store-forbidden : mayRefer s (areaOf p) (areaOf r) ≡ false → 16 ≡ storeRest s m t p q r
         unfolding storeRest
@@ -120,8 +114,8 @@ module _ (s : State) (m : Memory) (t p q : ℕ) where
 
   pub load-no-slot : {n : ℕ} → n ≡ slotRest s m t p q 0 → n ≢ 0 → n ≡ loadRest s m t p q
   unfolding loadRest
-  load-no-slot e h = e ∙ sym (slot-chain s m t p q .stops (λ z. h (e ∙ z)) _)
+  load-no-slot e h = e ∙ sym (index-chain Slots s m t p q .stops (λ z. h (e ∙ z)) _)
 
   pub load-slot : slotRest s m t p q 0 ≡ 0 → {n x : ℕ} → x ≡ wordAfter s m p q → n ≡ referenceRest s m t x 0 → n ≡ loadRest s m t p q
   unfolding loadRest
-  load-slot z f e = e ∙ ap (λ (x : ℕ). referenceRest s m t x 0) f ∙ sym (slot-chain s m t p q .passes z _)
+  load-slot z f e = e ∙ ap (λ (x : ℕ). referenceRest s m t x 0) f ∙ sym (index-chain Slots s m t p q .passes z _)

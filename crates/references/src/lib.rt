@@ -12,9 +12,9 @@ ghost use mathlib.Core.Path.{_≡_};
 ghost use Prim.Native.Nat.{_<_};
 ghost use Rattle.model.specs.References.{mayRefer, referenceRest, storeRest};
 ghost use Rattle.model.specs.Calls as calls;
-ghost use Rattle.tables.specs.Contract.{before, supplied, Usable, Answers};
+ghost use Rattle.tables.specs.Contract.{before, Usable, Answers};
 ghost use Rattle.objects.specs.declared.index.Part.the-variants.{Slots};
-ghost use Rattle.objects.specs.Resolving.{Admissible, Indexes};
+ghost use Rattle.objects.specs.Resolving.{Admissible, Refuses, Indexes};
 
 // The assignment rule, for the areas of an object and of a target: one look into the display of the
 // object's area (source 004, Algorithm 9).
@@ -44,7 +44,7 @@ fn check_reference<'a>(
     x: u64,
 ) -> u64
     requires { ⌜ Admissible words bytes permanent scratch map t ⌝ }
-    ensures { λ r. ⌜ r ≡ referenceRest (before words bytes) (supplied permanent scratch map) t x 0 ⌝ }
+    ensures { λ r. ⌜ Refuses r words bytes permanent scratch map (λ s m. referenceRest s m t x 0) ⌝ }
 {
     if x == 0 {
         return 0;
@@ -98,15 +98,16 @@ pub fn store(
     permanent: &mut [u64],
     scratch: &mut [u64],
     map: &[u64],
+    written: &[u64],
     t: u64,
     p: u64,
     q: u64,
     target: u64,
 ) -> Answer
     requires { ⌜ Usable words bytes ⌝ }
-    ensures { λ r. ⌜ Answers r words bytes permanent scratch map (calls.store t p q target) ⌝ }
+    ensures { λ r. ⌜ Answers r words bytes permanent scratch map written (calls.store t p q target) ⌝ }
 {
-    let refusal = callers::check_caller(words, bytes, permanent, scratch, map, t);
+    let refusal = callers::check_caller(words, bytes, permanent, scratch, map, written, t);
     if refusal != 0 {
         return Answer {
             status: refusal,
@@ -134,14 +135,15 @@ pub fn load<'a>(
     permanent: &'a [u64],
     scratch: &'a [u64],
     map: &[u64],
+    written: &[u64],
     t: u64,
     p: u64,
     q: u64,
 ) -> Answer
     requires { ⌜ Usable words bytes ⌝ }
-    ensures { λ r. ⌜ Answers r words bytes permanent scratch map (calls.load t p q) ⌝ }
+    ensures { λ r. ⌜ Answers r words bytes permanent scratch map written (calls.load t p q) ⌝ }
 {
-    let refusal = callers::check_caller(words, bytes, permanent, scratch, map, t);
+    let refusal = callers::check_caller(words, bytes, permanent, scratch, map, written, t);
     if refusal != 0 {
         return Answer {
             status: refusal,

@@ -82,6 +82,7 @@ pub fn answer_chunk(
     permanent: &mut [u64],
     scratch: &mut [u64],
     map: &mut [u64],
+    written: &mut [u64],
     line: &mut Text,
     len: usize,
     input: &[u8],
@@ -91,7 +92,7 @@ pub fn answer_chunk(
 ) -> Fed
     requires lent { ⌜ (Ready (now words) (now bytes)) × (length (now line) ≡ 40) × (19 * length (now input) ≤ length (now output)) ⌝ }
     requires counted { ⌜ (Counts n (now input)) × (19 * n < now steps) ⌝ }
-    ensures fed { λ r. ⌜ BytesFed words bytes permanent scratch map line len output 0 (take n (now (input .entry))) r ⌝ }
+    ensures fed { λ r. ⌜ BytesFed words bytes permanent scratch map written line len output 0 (take n (now (input .entry))) r ⌝ }
     ensures wrote { λ r. ⌜ Wrote (now (steps .entry)) (now (steps .exit)) (r .written) ⌝ }
 {
     let fed = reader::feed::feed(
@@ -100,6 +101,7 @@ pub fn answer_chunk(
         permanent,
         scratch,
         map,
+        written,
         line,
         len,
         &input[..n],
@@ -116,16 +118,27 @@ pub fn answer_rest(
     permanent: &mut [u64],
     scratch: &mut [u64],
     map: &mut [u64],
+    written: &mut [u64],
     line: &Text,
     len: usize,
     output: &mut Output,
     steps: &mut usize,
 ) -> usize
     requires { ⌜ (Ready (now words) (now bytes)) × (length (now line) ≡ 40) × (19 ≤ length (now output)) × (19 < now steps) ⌝ }
-    ensures ended { λ r. ⌜ InputEnded words bytes permanent scratch map line len output r ⌝ }
+    ensures ended { λ r. ⌜ InputEnded words bytes permanent scratch map written line len output r ⌝ }
     ensures wrote { λ r. ⌜ Wrote (now (steps .entry)) (now (steps .exit)) r ⌝ }
 {
-    let written = reader::feed::finish(words, bytes, permanent, scratch, map, line, len, output);
-    write_answers(output, written, steps);
-    written
+    let sent = reader::feed::finish(
+        words,
+        bytes,
+        permanent,
+        scratch,
+        map,
+        written,
+        line,
+        len,
+        output,
+    );
+    write_answers(output, sent, steps);
+    sent
 }

@@ -17,6 +17,7 @@ pub fn carry_out(
     permanent: &mut [u64],
     scratch: &mut [u64],
     map: &mut [u64],
+    written: &mut [u64],
     op: Op,
     t: u64,
     p: u64,
@@ -24,17 +25,42 @@ pub fn carry_out(
     r: u64,
 ) -> Answer
     requires { ⌜ Usable words bytes ⌝ }
-    ensures { λ a. ⌜ Answers a words bytes permanent scratch map (callOf op t p q r) ⌝ }
+    ensures { λ a. ⌜ Answers a words bytes permanent scratch map written (callOf op t p q r) ⌝ }
 {
     match op {
-        Op::State(o) => state::carry_state(words, bytes, permanent, scratch, map, o, t, p, q, r),
-        Op::Memory(o) => memory::carry_memory(words, bytes, permanent, scratch, map, o, t, p, q, r),
+        Op::State(o) => state::carry_state(
+            words,
+            bytes,
+            permanent,
+            scratch,
+            map,
+            written,
+            o,
+            t,
+            p,
+            q,
+            r,
+        ),
+        Op::Memory(o) => memory::carry_memory(
+            words,
+            bytes,
+            permanent,
+            scratch,
+            map,
+            written,
+            o,
+            t,
+            p,
+            q,
+            r,
+        ),
         Op::Question(o) => question::carry_question(
             words,
             bytes,
             permanent,
             scratch,
             map,
+            written,
             o,
             t,
             p,

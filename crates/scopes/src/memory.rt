@@ -14,6 +14,7 @@ pub fn carry_memory(
     permanent: &mut [u64],
     scratch: &mut [u64],
     map: &mut [u64],
+    written: &mut [u64],
     op: MemoryOp,
     t: u64,
     p: u64,
@@ -21,11 +22,32 @@ pub fn carry_memory(
     r: u64,
 ) -> Answer
     requires { ⌜ Usable words bytes ⌝ }
-    ensures { λ a. ⌜ Answers a words bytes permanent scratch map (callOf (Op.Memory op) t p q r) ⌝ }
+    ensures { λ a. ⌜ Answers a words bytes permanent scratch map written (callOf (Op.Memory op) t p q r) ⌝ }
 {
     match op {
-        MemoryOp::Allocate => allocation::allocate(words, bytes, permanent, scratch, map, t, q, r),
-        MemoryOp::Store => references::store(words, bytes, permanent, scratch, map, t, p, q, r),
-        MemoryOp::Write => data::write(words, bytes, permanent, scratch, map, t, p, q, r),
+        MemoryOp::Allocate => allocation::allocate(
+            words,
+            bytes,
+            permanent,
+            scratch,
+            map,
+            written,
+            t,
+            q,
+            r,
+        ),
+        MemoryOp::Store => references::store(
+            words,
+            bytes,
+            permanent,
+            scratch,
+            map,
+            written,
+            t,
+            p,
+            q,
+            r,
+        ),
+        MemoryOp::Write => data::write(words, bytes, permanent, scratch, map, written, t, p, q, r),
     }
 }

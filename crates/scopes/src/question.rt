@@ -14,6 +14,7 @@ pub fn carry_question<'a>(
     permanent: &'a [u64],
     scratch: &'a [u64],
     map: &[u64],
+    written: &[u64],
     op: QuestionOp,
     t: u64,
     p: u64,
@@ -21,10 +22,20 @@ pub fn carry_question<'a>(
     r: u64,
 ) -> Answer
     requires { ⌜ Usable words bytes ⌝ }
-    ensures { λ a. ⌜ Answers a words bytes permanent scratch map (callOf (Op.Question op) t p q r) ⌝ }
+    ensures { λ a. ⌜ Answers a words bytes permanent scratch map written (callOf (Op.Question op) t p q r) ⌝ }
 {
     match op {
-        QuestionOp::Load => references::load(words, bytes, permanent, scratch, map, t, p, q),
-        QuestionOp::Read => data::read(words, bytes, permanent, scratch, map, t, p, q),
+        QuestionOp::Load => references::load(
+            words,
+            bytes,
+            permanent,
+            scratch,
+            map,
+            written,
+            t,
+            p,
+            q,
+        ),
+        QuestionOp::Read => data::read(words, bytes, permanent, scratch, map, written, t, p, q),
     }
 }

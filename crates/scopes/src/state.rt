@@ -14,6 +14,7 @@ pub fn carry_state(
     permanent: &[u64],
     scratch: &[u64],
     map: &[u64],
+    written: &[u64],
     op: StateOp,
     t: u64,
     p: u64,
@@ -21,13 +22,13 @@ pub fn carry_state(
     r: u64,
 ) -> Answer
     requires { ⌜ Usable words bytes ⌝ }
-    ensures { λ a. ⌜ Answers a words bytes permanent scratch map (callOf (Op.State op) t p q r) ⌝ }
+    ensures { λ a. ⌜ Answers a words bytes permanent scratch map written (callOf (Op.State op) t p q r) ⌝ }
 {
     match op {
-        StateOp::Start => threads::start(words, bytes, permanent, scratch, map, t, p),
-        StateOp::End => threads::end(words, bytes, permanent, scratch, map, t),
-        StateOp::Make => areas::make::make(words, bytes, permanent, scratch, map, t, q, r),
-        StateOp::Enter => entry::enter(words, bytes, permanent, scratch, map, t, q),
-        StateOp::Exit => exit::exit(words, bytes, permanent, scratch, map, t),
+        StateOp::Start => threads::start(words, bytes, permanent, scratch, map, written, t, p),
+        StateOp::End => threads::end(words, bytes, permanent, scratch, map, written, t),
+        StateOp::Make => areas::make::make(words, bytes, permanent, scratch, map, written, t, q, r),
+        StateOp::Enter => entry::enter(words, bytes, permanent, scratch, map, written, t, q),
+        StateOp::Exit => exit::exit(words, bytes, permanent, scratch, map, written, t),
     }
 }

@@ -66,18 +66,18 @@ output-world input = fed-world input firstWorld [] ∙ after-lines (linesOf [] i
 
 -- ---- between any two bytes of the input it is one of the list theorem
 
-fitting : (n : Lengths) → n .permanent ≡ 2048 → n .scratch ≡ 4096 → n .map ≡ 96 → setUpStatus 1024 1024 n ≡ 0
-fitting n p s m = sym (prepared 1024 1024 n (sym p) (omega arith) (omega arith) (rw (p, s, m) refl))
+fitting : (n : Lengths) (k : ℕ) → n .permanent ≡ 2048 → n .scratch ≡ 4096 → n .map ≡ 96 → k ≡ 96 → setUpStatus 1024 1024 n k ≡ 0
+fitting n k p s m x = sym (prepared 1024 1024 n k (sym p) (omega arith) (omega arith) (rw (p, s, m) refl) (x ∙ sym m))
 
 first-reached : Reached firstWorld
 unfolding firstWorld
 first-reached = record {
   heap = 1024;
   immortal = 1024;
-  memory = memoryOf (replicate 2048 0) (replicate 4096 0) (replicate 96 0);
-  accepted = fitting _ (length-replicate {A = ℕ} 2048 0) (length-replicate {A = ℕ} 4096 0) (length-replicate {A = ℕ} 96 0);
+  memory = memoryOf (replicate 2048 0) (replicate 4096 0) (replicate 96 0) (replicate 96 0);
+  accepted = fitting _ _ (length-replicate {A = ℕ} 2048 0) (length-replicate {A = ℕ} 4096 0) (length-replicate {A = ℕ} 96 0) (length-replicate {A = ℕ} 96 0);
   elements = [];
-  run-is = sym (run-none (begin 1024 1024 (memoryOf (replicate 2048 0) (replicate 4096 0) (replicate 96 0))));
+  run-is = sym (run-none (begin 1024 1024 (memoryOf (replicate 2048 0) (replicate 4096 0) (replicate 96 0) (replicate 96 0))));
 }
 
 line-reached : (w : World) (x : Parsed) → Reached w → Reached (following w x)
@@ -104,7 +104,7 @@ finished-reached w (c ∷ l) r = after-reached w (c ∷ l) r
 
 -- with the lines of the calls so far
 abbrev pub CoreClaims : Core → World → Type 0
-CoreClaims k w = Claims (worldOf (k .words) (k .bytes) (memoryOf (k .permanent) (k .scratch) (k .map)) (w .trace)) (historyOf (w .trace))
+CoreClaims k w = Claims (worldOf (k .words) (k .bytes) (memoryOf (k .permanent) (k .scratch) (k .map) (k .written)) (w .trace)) (historyOf (w .trace))
 
 represents-claims : (k : Core) (w : World) → Represents k w → Reached w → CoreClaims k w
 represents-claims k w s r = rw (s .state, s .memory) (reached-claims w r)

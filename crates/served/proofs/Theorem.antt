@@ -9,9 +9,8 @@ use mathlib.Core.Logic.{_≢_}
 use lib.Dec.{eqb}
 use borrow.Author.Tests.{eq-eqb, ne-eqb}
 use Rattle.layout.specs.Choice.{refuse, pick-true, pick-false}
-use Rattle.model.specs.declared.Lengths.{Lengths}
 use Rattle.model.specs.State.{Memory}
-use Rattle.model.specs.SetUp.{lengthsOf, setUpStatus, setUpState, firstState}
+use Rattle.model.specs.SetUp.{lengthsOf, setUpStatus, begins, setUpState, firstState}
 use Rattle.model.specs.Checks.{live}
 use Rattle.model.specs.Run.{kept, other, Line, World, run, begin, Reached}
 use Rattle.model.specs.History.{historyOf}
@@ -25,13 +24,13 @@ use Rattle.setup.specs.First.{Begun}
 use Rattle.served.specs.Served.{Served, began, called, others}
 
 -- set-up promises the state of setUpState, and an accepted one is where run begins
-begin-is : (w b : List ℕ) (m : Memory) (status h i : ℕ) → Begun status w b h i (lengthsOf m) → status ≡ 0 → worldOf w b m [] ≡ begin h i m
+begin-is : (w b : List ℕ) (m : Memory) (status h i : ℕ) → Begun status w b h i m → status ≡ 0 → worldOf w b m [] ≡ begin h i m
 unfolding begin setUpState
 begin-is w b m status h i g z =
     rw (
       g .holds .state,
-      pick-true (eqb (setUpStatus h i (lengthsOf m)) 0) (firstState h i (lengthsOf m)) _
-          (eq-eqb (setUpStatus h i (lengthsOf m)) 0 (sym (g .status-is) ∙ z)),
+      pick-true (eqb (begins h i m) 0) (firstState h i (lengthsOf m)) _
+          (eq-eqb (begins h i m) 0 (sym (g .status-is) ∙ z)),
     ) refl
 
 -- ---- what a host holds and has had is a world that a list of calls leads to
@@ -88,13 +87,13 @@ served-world s =
 
 -- ---- a refused set-up: the tables that it gives are those of an accepted one that was lent nothing, so the theorem covers it too
 
-pub refused-begun : (status : ℕ) (w b : List ℕ) (h i : ℕ) (n : Lengths) → Begun status w b h i n → status ≢ 0 → Begun 0 w b 0 0 (lengthsOf (memoryOf [] [] []))
+pub refused-begun : (status : ℕ) (w b : List ℕ) (h i : ℕ) (m : Memory) → Begun status w b h i m → status ≢ 0 → Begun 0 w b 0 0 (memoryOf [] [] [] [])
 unfolding setUpState setUpStatus refuse
-refused-begun status w b h i n g z = record {
+refused-begun status w b h i m g z = record {
   status-is = refl;
   holds = record {
     sized = g .holds .sized;
-    state = g .holds .state ∙ pick-false (eqb (setUpStatus h i n) 0) _ _ (ne-eqb (setUpStatus h i n) 0 (λ e. z (g .status-is ∙ e)));
+    state = g .holds .state ∙ pick-false (eqb (begins h i m) 0) _ _ (ne-eqb (begins h i m) 0 (λ e. z (g .status-is ∙ e)));
   };
   ready = g .ready;
 }

@@ -6,7 +6,6 @@ use mathlib.Core.Bool.{false}
 use mathlib.Core.List.{List, [], _∷_}
 use mathlib.Core.Path.{_≡_}
 use Rattle.model.specs.State.{Memory}
-use Rattle.model.specs.SetUp.{lengthsOf}
 use Rattle.model.specs.Checks.{fits}
 use Rattle.model.specs.Calls.{Call, Reply}
 use Rattle.model.specs.Run.{Line}
@@ -18,7 +17,7 @@ use Rattle.setup.specs.First.{Begun}
 -- first. No constructor knows an op: a call that is added later joins by its contract.
 pub data Served : List ℕ → List ℕ → Memory → List Line → Type 0 where
   -- "from an accepted set-up": it was lent the buffers m, and answered 0
-  began : {w b : List ℕ} {m : Memory} {status : ℕ} (h i : ℕ) → Begun status w b h i (lengthsOf m) → status ≡ 0 → Served w b m []
+  began : {w b : List ℕ} {m : Memory} {status : ℕ} (h i : ℕ) → Begun status w b h i m → status ≡ 0 → Served w b m []
   -- "each given what the last one left": a call was lent what is kept, and what it left is kept; one that is lent no buffer leaves it as it is
   called : {w b w′ b′ : List ℕ} {m m′ : Memory} {ls : List Line} {c : Call} {r : Reply}
       → Served w b m ls → Answered w b m c r w′ b′ m′ → Served w′ b′ m′ (record { call = c; reply = r } ∷ ls)

@@ -1,19 +1,19 @@
 -- The words and the bytes that set-up makes hold the first state; and one law for each way that its checks end.
 -- Assumes nothing.
-use mathlib.Core.Path.{_≡_, refl, ap, sym, _∙_}
+use mathlib.Core.Path.{_≡_, ap, sym, _∙_}
 use mathlib.Core.Bool.{not}
 use mathlib.Core.List.{List}
 use Prim.Native.Nat.{ℕ, _+_, _/_, _<_, _≤_}
 use native.Mathlib.Omega.{arith}
 use lib.Dec.{eqb}
 use borrow.Author.Tests.{eq-eqb, ne-eqb, lt-ltb, le-ltb}
-use lib.ListN.{replicate}
-use Rattle.layout.specs.Choice.{hit, skip, pick-true, pick-false}
+use lib.ListN.{length, replicate}
+use Rattle.layout.specs.Choice.{refuse, hit, skip, pick-true, pick-false}
 use Rattle.rights.specs.Rights.{builtIn}
 use Rattle.rights.specs.Loading.{built-in-loadable}
 use Rattle.model.specs.declared.Lengths.{Lengths}
-use Rattle.model.specs.State.{State, withArea, withRights}
-use Rattle.model.specs.SetUp.{setUpStatus, firstState, setUpState, standing}
+use Rattle.model.specs.State.{State, Memory, withArea, withRights}
+use Rattle.model.specs.SetUp.{lengthsOf, setUpStatus, begins, firstState, setUpState, standing}
 use Rattle.tables.specs.Decode.{wordCount, byteCount, putArea, putLengths, putRights, Holds}
 use Rattle.tables.specs.Laws.{state-area, withLengths, state-lengths, state-rights}
 use Rattle.tables.specs.Contract.{Ready}
@@ -44,46 +44,53 @@ first-holds h i n =
           (h2 .state ∙ ap (λ (s : State). withArea s 1 (standing h i)) (h1 .state ∙ ap (λ (s : State). withArea s 0 (standing 0 h)) (blank-holds .state))));
     }
 
-module _ (h i : ℕ) (n : Lengths) where
-  pub not-whole : (h + i ≡ n .permanent → ⊥) → 1 ≡ setUpStatus h i n
+module _ (h i : ℕ) (n : Lengths) (k : ℕ) where
+  pub not-whole : (h + i ≡ n .permanent → ⊥) → 1 ≡ setUpStatus h i n k
   unfolding setUpStatus
   not-whole e = sym (hit _ _ _ (ap not (ne-eqb (h + i) (n .permanent) e)))
 
   module _ (w : h + i ≡ n .permanent) where
-    pub long-permanent : 16384 < n .permanent → 1 ≡ setUpStatus h i n
+    pub long-permanent : 16384 < n .permanent → 1 ≡ setUpStatus h i n k
     unfolding setUpStatus
     long-permanent a = sym (skip _ _ _ (ap not (eq-eqb (h + i) (n .permanent) w)) ∙ hit _ _ _ (lt-ltb 16384 (n .permanent) a))
 
     module _ (a : n .permanent ≤ 16384) where
-      pub long-scratch : 16384 < n .scratch → 1 ≡ setUpStatus h i n
+      pub long-scratch : 16384 < n .scratch → 1 ≡ setUpStatus h i n k
       unfolding setUpStatus
       long-scratch b = sym (skip _ _ _ (ap not (eq-eqb (h + i) (n .permanent) w)) ∙ skip _ _ _ (le-ltb 16384 (n .permanent) a) ∙ hit _ _ _ (lt-ltb 16384 (n .scratch) b))
 
       module _ (b : n .scratch ≤ 16384) where
-        pub other-map : (n .map ≡ (n .permanent + n .scratch + 63) / 64 → ⊥) → 1 ≡ setUpStatus h i n
+        -- only the maps are left
+        past-stores : setUpStatus h i n k ≡ refuse (not (eqb (n .map) ((n .permanent + n .scratch + 63) / 64))) 1 (refuse (not (eqb k (n .map))) 1 0)
         unfolding setUpStatus
-        other-map e = sym (skip _ _ _ (ap not (eq-eqb (h + i) (n .permanent) w)) ∙ skip _ _ _ (le-ltb 16384 (n .permanent) a) ∙ skip _ _ _ (le-ltb 16384 (n .scratch) b) ∙ hit _ _ _ (ap not (ne-eqb (n .map) _ e)))
+        past-stores = skip _ _ _ (ap not (eq-eqb (h + i) (n .permanent) w)) ∙ skip _ _ _ (le-ltb 16384 (n .permanent) a) ∙ skip _ _ _ (le-ltb 16384 (n .scratch) b)
 
-        pub prepared : n .map ≡ (n .permanent + n .scratch + 63) / 64 → 0 ≡ setUpStatus h i n
-        unfolding setUpStatus
-        prepared e = sym (skip _ _ _ (ap not (eq-eqb (h + i) (n .permanent) w)) ∙ skip _ _ _ (le-ltb 16384 (n .permanent) a) ∙ skip _ _ _ (le-ltb 16384 (n .scratch) b) ∙ skip _ _ _ (ap not (eq-eqb (n .map) _ e)))
+        pub other-map : (n .map ≡ (n .permanent + n .scratch + 63) / 64 → ⊥) → 1 ≡ setUpStatus h i n k
+        other-map e = sym (past-stores ∙ hit _ _ _ (ap not (ne-eqb (n .map) _ e)))
+
+        module _ (e : n .map ≡ (n .permanent + n .scratch + 63) / 64) where
+          pub other-written : (k ≡ n .map → ⊥) → 1 ≡ setUpStatus h i n k
+          other-written f = sym (past-stores ∙ skip _ _ _ (ap not (eq-eqb (n .map) _ e)) ∙ hit _ _ _ (ap not (ne-eqb k (n .map) f)))
+
+          pub prepared : k ≡ n .map → 0 ≡ setUpStatus h i n k
+          prepared f = sym (past-stores ∙ skip _ _ _ (ap not (eq-eqb (n .map) _ e)) ∙ skip _ _ _ (ap not (eq-eqb k (n .map) f)))
 
   -- what set-up gives, by its status
-  pub accepted-holds : setUpStatus h i n ≡ 0 → Holds (firstWords h i n) firstBytes (setUpState h i n)
+  pub accepted-holds : setUpStatus h i n k ≡ 0 → Holds (firstWords h i n) firstBytes (setUpState h i n k)
   unfolding setUpState
   accepted-holds e =
-      let k = first-holds h i n in
-      record { sized = k .sized; state = k .state ∙ sym (pick-true (eqb (setUpStatus h i n) 0) _ _ (eq-eqb (setUpStatus h i n) 0 e)) }
+      let z = first-holds h i n in
+      record { sized = z .sized; state = z .state ∙ sym (pick-true (eqb (setUpStatus h i n k) 0) _ _ (eq-eqb (setUpStatus h i n k) 0 e)) }
 
-  pub refused-holds : (setUpStatus h i n ≡ 0 → ⊥)
-      → Holds (firstWords 0 0 (record { permanent = 0; scratch = 0; map = 0 })) firstBytes (setUpState h i n)
+  pub refused-holds : (setUpStatus h i n k ≡ 0 → ⊥)
+      → Holds (firstWords 0 0 (record { permanent = 0; scratch = 0; map = 0 })) firstBytes (setUpState h i n k)
   unfolding setUpState
   refused-holds e =
-      let k = first-holds 0 0 (record { permanent = 0; scratch = 0; map = 0 }) in
-      record { sized = k .sized; state = k .state ∙ sym (pick-false (eqb (setUpStatus h i n) 0) _ _ (ne-eqb (setUpStatus h i n) 0 e)) }
+      let z = first-holds 0 0 (record { permanent = 0; scratch = 0; map = 0 }) in
+      record { sized = z .sized; state = z .state ∙ sym (pick-false (eqb (setUpStatus h i n k) 0) _ _ (ne-eqb (setUpStatus h i n k) 0 e)) }
 
--- what set-up answers, and the tables that it gives
-pub record Begun (status : ℕ) (w b : List ℕ) (h i : ℕ) (n : Lengths) : Type 0 where
-  pub status-is : status ≡ setUpStatus h i n
-  pub holds : Holds w b (setUpState h i n)
+-- what set-up answers where it is lent the buffers m, and the tables that it gives
+pub record Begun (status : ℕ) (w b : List ℕ) (h i : ℕ) (m : Memory) : Type 0 where
+  pub status-is : status ≡ begins h i m
+  pub holds : Holds w b (setUpState h i (lengthsOf m) (length (m .written)))
   pub ready : Ready w b

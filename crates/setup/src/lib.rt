@@ -7,7 +7,7 @@ use tables::Bytes;
 use tables::WORDS;
 use tables::Words;
 ghost use mathlib.Core.Path.{_≡_};
-ghost use Rattle.model.specs.SetUp.{setUpStatus, setUpState, standing, lengthsOf};
+ghost use Rattle.model.specs.SetUp.{setUpStatus, setUpState, standing};
 ghost use Rattle.tables.specs.Decode.{Holds};
 ghost use Rattle.tables.specs.Contract.{supplied};
 ghost use Rattle.setup.specs.First.{firstWords, firstBytes, Begun};
@@ -35,10 +35,11 @@ fn standing_area(start: u64, size: u64) -> Area
     }
 }
 
-// 1 unless h + i is the permanent length, no store is longer than 16,384 words, and the map has a bit
-// for each word and no word more. The sum is compared by a difference, so that nothing wraps.
-fn check_set_up(h: u64, i: u64, n: Lengths) -> u64
-    ensures { λ r. ⌜ r ≡ setUpStatus h i n ⌝ }
+// 1 unless h + i is the permanent length, no store is longer than 16,384 words, the start map has a bit
+// for each word and no word more, and the written map, of k words, is as long. The sum is compared by a
+// difference, so that nothing wraps.
+fn check_set_up(h: u64, i: u64, n: Lengths, k: u64) -> u64
+    ensures { λ r. ⌜ r ≡ setUpStatus h i n k ⌝ }
 {
     if n.permanent < h {
         return 1;
@@ -55,6 +56,9 @@ fn check_set_up(h: u64, i: u64, n: Lengths) -> u64
     if n.map != (n.permanent + n.scratch + 63) / 64 {
         return 1;
     }
+    if k != n.map {
+        return 1;
+    }
     0
 }
 
@@ -69,9 +73,9 @@ fn put_first_words(words: &mut Words, h: u64, i: u64, n: Lengths)
 }
 
 // The words of what set-up gives: of an accepted one, or of one with all lengths 0.
-fn put_set_up_words(words: &mut Words, status: u64, h: u64, i: u64, n: Lengths)
-    requires { ⌜ status ≡ setUpStatus h i n ⌝ }
-    ensures { λ r. ⌜ Holds (now (words .exit)) firstBytes (setUpState h i n) ⌝ }
+fn put_set_up_words(words: &mut Words, status: u64, h: u64, i: u64, n: Lengths, k: u64)
+    requires { ⌜ status ≡ setUpStatus h i n k ⌝ }
+    ensures { λ r. ⌜ Holds (now (words .exit)) firstBytes (setUpState h i n k) ⌝ }
 {
     if status == 0 {
         put_first_words(words, h, i, n);
@@ -101,29 +105,47 @@ pub fn set_up_in_place(
     permanent: &[u64],
     scratch: &[u64],
     map: &[u64],
+    written: &[u64],
     h: u64,
     i: u64,
 ) -> u64
-    ensures { λ r. ⌜ Begun r (now (words .exit)) (now (bytes .exit)) h i (lengthsOf (supplied permanent scratch map)) ⌝ }
+    ensures { λ r. ⌜ Begun r (now (words .exit)) (now (bytes .exit)) h i (supplied permanent scratch map written) ⌝ }
 {
     let n = Lengths {
         permanent: permanent.len() as u64,
         scratch: scratch.len() as u64,
         map: map.len() as u64,
     };
-    let status = check_set_up(h, i, n);
-    put_set_up_words(words, status, h, i, n);
+    let k = written.len() as u64;
+    let status = check_set_up(h, i, n, k);
+    put_set_up_words(words, status, h, i, n, k);
     put_first_bytes(bytes);
     status
 }
 
 // Set-up by value.
-pub fn set_up(permanent: &[u64], scratch: &[u64], map: &[u64], h: u64, i: u64) -> SetUp
-    ensures { λ r. ⌜ Begun (r .status) (r .words) (r .bytes) h i (lengthsOf (supplied permanent scratch map)) ⌝ }
+pub fn set_up(
+    permanent: &[u64],
+    scratch: &[u64],
+    map: &[u64],
+    written: &[u64],
+    h: u64,
+    i: u64,
+) -> SetUp
+    ensures { λ r. ⌜ Begun (r .status) (r .words) (r .bytes) h i (supplied permanent scratch map written) ⌝ }
 {
     let mut words = [0u64; WORDS];
     let mut bytes = [0u8; BYTES];
-    let status = set_up_in_place(&mut words, &mut bytes, permanent, scratch, map, h, i);
+    let status = set_up_in_place(
+        &mut words,
+        &mut bytes,
+        permanent,
+        scratch,
+        map,
+        written,
+        h,
+        i,
+    );
     SetUp {
         status,
         words,

@@ -24,26 +24,30 @@ Cell = RefT (List ℕ)
 abbrev pub Borrowed : Type 0
 Borrowed = Both Cell Cell
 
--- the three lent buffers
-abbrev pub memoryOf : List ℕ → List ℕ → List ℕ → Memory
-memoryOf p s m = record { permanent = p; scratch = s; map = m }
+-- the four lent buffers
+abbrev pub memoryOf : List ℕ → List ℕ → List ℕ → List ℕ → Memory
+memoryOf p s m x = record { permanent = p; scratch = s; map = m; written = x }
 
 -- in what a function asks: the state in the tables, the memory in the buffers
 abbrev pub stateIn : Cell → Cell → State
 stateIn words bytes = stateOf (now words) (now bytes)
 
-abbrev pub memoryIn : Cell → Cell → Cell → Memory
-memoryIn permanent scratch map = memoryOf (now permanent) (now scratch) (now map)
+abbrev pub memoryIn : Cell → Cell → Cell → Cell → Memory
+memoryIn permanent scratch map written = memoryOf (now permanent) (now scratch) (now map) (now written)
 
 -- in what it promises: both at the call, and the memory at the return
 abbrev pub before : Borrowed → Borrowed → State
 before words bytes = stateIn (words .entry) (bytes .entry)
 
-abbrev pub supplied : Borrowed → Borrowed → Borrowed → Memory
-supplied permanent scratch map = memoryIn (permanent .entry) (scratch .entry) (map .entry)
+abbrev pub supplied : Borrowed → Borrowed → Borrowed → Borrowed → Memory
+supplied permanent scratch map written = memoryIn (permanent .entry) (scratch .entry) (map .entry) (written .entry)
 
-abbrev pub returned : Borrowed → Borrowed → Borrowed → Memory
-returned permanent scratch map = memoryIn (permanent .exit) (scratch .exit) (map .exit)
+abbrev pub returned : Borrowed → Borrowed → Borrowed → Borrowed → Memory
+returned permanent scratch map written = memoryIn (permanent .exit) (scratch .exit) (map .exit) (written .exit)
+
+-- of a function that is lent the stores and the start map alone: the memory at the call with any written map x, which it cannot read
+abbrev pub suppliedWith : Borrowed → Borrowed → Borrowed → List ℕ → Memory
+suppliedWith permanent scratch map x = memoryOf (now (permanent .entry)) (now (scratch .entry)) (now (map .entry)) x
 
 -- the tables at the return hold a state
 abbrev pub Leaves : Borrowed → Borrowed → State → Type 0
@@ -78,15 +82,15 @@ pub record Answered (w b : List ℕ) (m : Memory) (c : Call) (r : Reply) (w′ b
   pub ready : Ready w′ b′
 
 -- the same over what a function is lent: it answered r to call c
-abbrev pub Replies : Reply → Borrowed → Borrowed → Borrowed → Borrowed → Borrowed → Call → Type 0
-Replies r words bytes permanent scratch map c =
-    Answered (now (words .entry)) (now (bytes .entry)) (supplied permanent scratch map)
+abbrev pub Replies : Reply → Borrowed → Borrowed → Borrowed → Borrowed → Borrowed → Borrowed → Call → Type 0
+Replies r words bytes permanent scratch map written c =
+    Answered (now (words .entry)) (now (bytes .entry)) (supplied permanent scratch map written)
     c r
-    (now (words .exit)) (now (bytes .exit)) (returned permanent scratch map)
+    (now (words .exit)) (now (bytes .exit)) (returned permanent scratch map written)
 
 -- the same of a call that shows no words
-abbrev pub Answers : Answer → Borrowed → Borrowed → Borrowed → Borrowed → Borrowed → Call → Type 0
-Answers r words bytes permanent scratch map c = Replies (plain (r .status) (r .value)) words bytes permanent scratch map c
+abbrev pub Answers : Answer → Borrowed → Borrowed → Borrowed → Borrowed → Borrowed → Borrowed → Call → Type 0
+Answers r words bytes permanent scratch map written c = Replies (plain (r .status) (r .value)) words bytes permanent scratch map written c
 
 -- the same of a call that is lent no buffer: whatever memory is kept, it stays
 abbrev pub AnswersAlone : Answer → Borrowed → Borrowed → Call → Type 0

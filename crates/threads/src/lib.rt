@@ -59,13 +59,14 @@ pub fn start(
     permanent: &[u64],
     scratch: &[u64],
     map: &[u64],
+    written: &[u64],
     t: u64,
     kind: u64,
 ) -> Answer
     requires { ⌜ Usable words bytes ⌝ }
-    ensures { λ r. ⌜ Answers r words bytes permanent scratch map (calls.start t kind) ⌝ }
+    ensures { λ r. ⌜ Answers r words bytes permanent scratch map written (calls.start t kind) ⌝ }
 {
-    let fit = callers::lengths_fit(words, bytes, permanent, scratch, map);
+    let fit = callers::lengths_fit(words, bytes, permanent, scratch, map, written);
     if !fit {
         return Answer {
             status: 1,
@@ -112,12 +113,13 @@ pub fn end(
     permanent: &[u64],
     scratch: &[u64],
     map: &[u64],
+    written: &[u64],
     t: u64,
 ) -> Answer
     requires { ⌜ Usable words bytes ⌝ }
-    ensures { λ r. ⌜ Answers r words bytes permanent scratch map (calls.end t) ⌝ }
+    ensures { λ r. ⌜ Answers r words bytes permanent scratch map written (calls.end t) ⌝ }
 {
-    let fits = callers::lengths_fit(words, bytes, permanent, scratch, map);
+    let fits = callers::lengths_fit(words, bytes, permanent, scratch, map, written);
     if !fits {
         return Answer {
             status: 1,

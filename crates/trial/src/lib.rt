@@ -15,20 +15,30 @@ pub fn trial(
     permanent: &mut [u64],
     scratch: &mut [u64],
     map: &mut [u64],
+    written: &mut [u64],
     text: &[u8],
     h: u64,
     i: u64,
     t: u64,
 ) -> u64
-    ensures { λ r. ⌜ (r ≡ 0 → Tried (now (words .exit)) (now (bytes .exit)) (returned permanent scratch map) (now (text .entry)) t) ⌝ }
+    ensures { λ r. ⌜ (r ≡ 0 → Tried (now (words .exit)) (now (bytes .exit)) (returned permanent scratch map written) (now (text .entry)) t) ⌝ }
 {
-    let status = host_state::scopes_set_up_in_place(words, bytes, permanent, scratch, map, h, i);
+    let status = host_state::scopes_set_up_in_place(
+        words,
+        bytes,
+        permanent,
+        scratch,
+        map,
+        written,
+        h,
+        i,
+    );
     if status != 0 {
         return status;
     }
     host_tables::scopes_load_rights(words, bytes, text);
-    host_state::scopes_start(words, bytes, permanent, scratch, map, t, 2);
-    host_objects::scopes_allocate(words, bytes, permanent, scratch, map, t, 1, 2);
-    host_objects::scopes_view_status(words, bytes, permanent, scratch, map, t, 0);
+    host_state::scopes_start(words, bytes, permanent, scratch, map, written, t, 2);
+    host_objects::scopes_allocate(words, bytes, permanent, scratch, map, written, t, 1, 2);
+    host_objects::scopes_view_status(words, bytes, permanent, scratch, map, written, t, 0);
     status
 }

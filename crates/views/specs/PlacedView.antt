@@ -64,7 +64,7 @@ abbrev pub wordsThere : ViewPlace → Memory → List ℕ
 wordsThere r m = take (r .len) (drop (r .from) (pick (eqb (r .store) 0) (m .permanent) (m .scratch)))
 
 -- one place answers both calls: the words there are what the view shows, and the status is that of the call beside it
-pub record PlaceAnswers (r : ViewPlace) (words bytes permanent scratch map : Borrowed) (t p : ℕ) : Type 0 where
-  pub shows : Replies (viewReply (wordsThere r (supplied permanent scratch map)))
-      words bytes permanent scratch map (view t p)
-  pub tells : Replies (plain (r .status) 0) words bytes permanent scratch map (viewStatus t p)
+pub record PlaceAnswers (r : ViewPlace) (words bytes permanent scratch map written : Borrowed) (t p : ℕ) : Type 0 where
+  pub shows : Replies (viewReply (wordsThere r (supplied permanent scratch map written)))
+      words bytes permanent scratch map written (view t p)
+  pub tells : Replies (plain (r .status) 0) words bytes permanent scratch map written (viewStatus t p)

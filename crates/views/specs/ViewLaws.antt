@@ -22,6 +22,7 @@ use Rattle.objects.specs.Found.{objectOf}
 use Rattle.objects.specs.Places.{Lies}
 use Rattle.views.specs.declared.ViewPlace.{ViewPlace}
 use Rattle.objects.specs.Statuses.{area-is, data-words-is}
+use Rattle.objects.specs.Fits.{fits-stores}
 use Rattle.objects.specs.Effects.{place-is, index-is, object-lies}
 use Rattle.objects.specs.declared.check.Checked.{Checked}
 use Rattle.objects.specs.declared.check.Checked.the-variants.{Passed, Refused}
@@ -49,7 +50,7 @@ module _ (s : State) (m : Memory) (t p : ℕ) where
     pub object-in : Good s → Lies m o
     object-in g =
         let a = admitted s m t _ z in
-        object-lies s m p o e g (a .0 .supplied) t (use-ok s m t p 0 (a .1) .0)
+        object-lies s m p o e g (fits-stores s m (a .0 .supplied)) t (use-ok s m t p 0 (a .1) .0)
 
   -- of what a check answers, in the store that has the words of the handle's area
   pub view-placed : (c : Checked) (k : ℕ) → c ≡ checkedOf (objectOf s m p) (viewRefusal s m t p) → k ≡ pick (isScope (areaOf p)) 1 0 → placedIn c k ≡ viewPlaceOf s m t p

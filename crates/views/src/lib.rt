@@ -10,7 +10,7 @@ ghost use Prim.Native.Nat.{_<_};
 ghost use Rattle.model.specs.Data.{viewRefusal};
 ghost use Rattle.model.specs.Calls as calls;
 ghost use Rattle.tables.specs.Contract.{before, supplied, Usable, viewReply, Replies, Answers};
-ghost use Rattle.objects.specs.Resolving.{Checks};
+ghost use Rattle.objects.specs.Resolving.{ChecksIn};
 ghost use Rattle.views.specs.PlacedView.{dataStart, placedIn, viewPlaceOf, PlacedView};
 
 // Where a shown part lies, by numbers: the status of the call; store 0 for the permanent one, 1 for the scratch;
@@ -30,13 +30,14 @@ fn check_view<'a>(
     permanent: &'a [u64],
     scratch: &'a [u64],
     map: &[u64],
+    written: &[u64],
     t: u64,
     p: u64,
 ) -> Checked
     requires { ⌜ Usable words bytes ⌝ }
-    ensures { λ r. ⌜ Checks r words bytes permanent scratch map p (λ s m. viewRefusal s m t p) ⌝ }
+    ensures { λ r. ⌜ ChecksIn r (before words bytes) (supplied permanent scratch map written) p (λ s m. viewRefusal s m t p) ⌝ }
 {
-    let refusal = callers::check_caller(words, bytes, permanent, scratch, map, t);
+    let refusal = callers::check_caller(words, bytes, permanent, scratch, map, written, t);
     if refusal != 0 {
         return Checked::Refused(refusal);
     }
@@ -72,16 +73,23 @@ pub fn view_place<'a>(
     permanent: &'a [u64],
     scratch: &'a [u64],
     map: &[u64],
+    written: &[u64],
     t: u64,
     p: u64,
 ) -> ViewPlace
     requires { ⌜ Usable words bytes ⌝ }
-    ensures { λ r. ⌜ r ≡ viewPlaceOf (before words bytes) (supplied permanent scratch map) t p ⌝ }
+    ensures { λ r. ⌜ r ≡ viewPlaceOf (before words bytes) (supplied permanent scratch map written) t p ⌝ }
 {
     if 2 <= handle::area(p) {
-        return placed(check_view(words, bytes, permanent, scratch, map, t, p), 1);
+        return placed(
+            check_view(words, bytes, permanent, scratch, map, written, t, p),
+            1,
+        );
     }
-    placed(check_view(words, bytes, permanent, scratch, map, t, p), 0)
+    placed(
+        check_view(words, bytes, permanent, scratch, map, written, t, p),
+        0,
+    )
 }
 
 // The shown part: exactly the object's data words, where they lie; where the call is refused a part
@@ -92,14 +100,15 @@ pub fn view<'a>(
     permanent: &'a [u64],
     scratch: &'a [u64],
     map: &[u64],
+    written: &[u64],
     t: u64,
     p: u64,
 ) -> &'a [u64]
     requires { ⌜ Usable words bytes ⌝ }
-    ensures answer { λ r. ⌜ Replies (viewReply (now r)) words bytes permanent scratch map (calls.view t p) ⌝ }
-    ensures place { λ r. ⌜ PlacedView (r .ptr) permanent scratch (before words bytes) (supplied permanent scratch map) t p ⌝ }
+    ensures answer { λ r. ⌜ Replies (viewReply (now r)) words bytes permanent scratch map written (calls.view t p) ⌝ }
+    ensures place { λ r. ⌜ PlacedView (r .ptr) permanent scratch (before words bytes) (supplied permanent scratch map written) t p ⌝ }
 {
-    let place = view_place(words, bytes, permanent, scratch, map, t, p);
+    let place = view_place(words, bytes, permanent, scratch, map, written, t, p);
     let from = place.from as usize;
     let to = from + place.len as usize;
     if place.store == 0 {
@@ -115,13 +124,14 @@ pub fn view_status<'a>(
     permanent: &'a [u64],
     scratch: &'a [u64],
     map: &[u64],
+    written: &[u64],
     t: u64,
     p: u64,
 ) -> Answer
     requires { ⌜ Usable words bytes ⌝ }
-    ensures { λ r. ⌜ Answers r words bytes permanent scratch map (calls.viewStatus t p) ⌝ }
+    ensures { λ r. ⌜ Answers r words bytes permanent scratch map written (calls.viewStatus t p) ⌝ }
 {
-    match check_view(words, bytes, permanent, scratch, map, t, p) {
+    match check_view(words, bytes, permanent, scratch, map, written, t, p) {
         Checked::Refused(status) => Answer { status, value: 0 },
         Checked::Passed(_) => Answer {
             status: 0,

@@ -19,13 +19,13 @@ use Rattle.allocation.proofs.allocate.Tie as tie
 
 -- past refusals 1 and 2: the entry, the state, the memory and the call
 abbrev start : tie.Else1 → tie.Start
-start c = c .before .before .before .before .before .before .before .before .before
+start c = c .before .before .before .before .before .before .before .before .before .before .before
 
 abbrev state : tie.Else1 → State
 state c = stateIn (start c .args .words) (start c .args .bytes)
 
 abbrev memory : tie.Else1 → Memory
-memory c = memoryIn (start c .args .permanent) (start c .args .scratch) (start c .args .map)
+memory c = memoryIn (start c .args .permanent) (start c .args .scratch) (start c .args .map) (start c .args .written)
 
 abbrev call : tie.Else1 → calls.Call
 call c = calls.allocate (start c .args .t) (start c .args .slots) (start c .args .data-words)
@@ -61,7 +61,7 @@ checked c =
 
 returns : tie.Need-returns
 returns c =
-    let i = c .before .before .before .before .before .before .before .before .before in
+    let i = c .before .before .before .before .before .before .before .before .before .before .before in
     answered-refused _ _ _ (calls.allocate _ _ _) (i .pre) (allocate-not-admitted _ _ _ _ _ (c .before .check-caller .ensures) (c .if1 .taken)) (c .if1 .taken)
 
 top-entry-requires : tie.Need-top-entry-requires
@@ -83,7 +83,7 @@ returns-2 c =
 
 apply-allocate-requires : tie.Need-apply-allocate-requires
 apply-allocate-requires c κs =
-    let e = c .before .before .before .before in
+    let e = c .before .before .before .before .before in
     let a = e .before .before in
     let k = looked a in
     let d = past k in
@@ -91,8 +91,8 @@ apply-allocate-requires c κs =
 
 returns-3 : tie.Need-returns-3
 returns-3 c =
-    let l = c .before .before .before .before .before .before in
-    let e = l .before .before .before .before .before in
+    let l = c .before .before .before .before .before .before .before .before in
+    let e = l .before .before .before .before .before .before in
     let k = looked (e .before .before) in
     let d = past k in
     let o = rw (top k) at (l .apply-allocate .ensures) in
@@ -102,9 +102,9 @@ pub allocate-spec : {M : Type 1} → statement M
 allocate-spec =
     tie.close
     (tie.spec
-    (λ c κs. search needs) (λ c. search needs) (λ c. search needs) (λ c. search needs) returns
+    (λ c κs. search needs) (λ c. search needs) (λ c. search needs) (λ c. search needs) (λ c. search needs) returns
     top-entry-requires (λ c. search needs)
     has-right-requires
     area-at-requires
-    check-area-requires (λ c. search needs) (λ c. search needs) (λ c. search needs) returns-2
-    apply-allocate-requires (λ c. search needs) (λ c. search needs) (λ c. search needs) returns-3)
+    check-area-requires (λ c. search needs) (λ c. search needs) (λ c. search needs) (λ c. search needs) returns-2
+    apply-allocate-requires (λ c. search needs) (λ c. search needs) (λ c. search needs) (λ c. search needs) returns-3)

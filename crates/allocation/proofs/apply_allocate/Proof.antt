@@ -4,16 +4,16 @@ use native.Mathlib.Omega.{arith}
 use borrow.Author.Needs.{needs}
 use Rattle.model.specs.State.{Memory}
 use Rattle.tables.specs.Contract.{memoryIn}
-use Rattle.allocation.specs.Allocation.{words-low, words-in, bit-sum, bits-in, bits-low, allocated}
+use Rattle.allocation.specs.Allocation.{words-low, words-in, bit-sum, bits-in, written-in, bits-low, allocated}
 use Rattle.allocation.proofs.apply_allocate.Statement.{statement}
 use Rattle.allocation.proofs.apply_allocate.Tie as tie
 
 -- the entry and the memory, from where the area is written
 abbrev start : tie.After-put-area → tie.Start
-start c = c .before .before .before .before .before .before
+start c = c .before .before .before .before .before .before .before
 
 abbrev memory : tie.After-put-area → Memory
-memory c = memoryIn (start c .args .permanent) (start c .args .scratch) (start c .args .map)
+memory c = memoryIn (start c .args .permanent) (start c .args .scratch) (start c .args .map) (start c .args .written)
 
 -- where the area was written, from what comes later: its bit is found
 abbrev written : tie.After-bit-index → tie.After-put-area
@@ -49,16 +49,24 @@ mark-object-requires c κs =
       bits-low _ _ (memory (written b)) _ _ _ _ (i .pre .0 .0) (i .pre .0 .1) (i .pre .1) _ (b .bit-index .ensures),
     )
 
+clear-bits-requires : tie.Need-clear-bits-requires
+clear-bits-requires c κs =
+    let b = found (c .before .before .before .before .before .before .before .before .before) in
+    let i = start (written b) in
+    let e = bits-low _ _ (memory (written b)) _ _ _ _ (i .pre .0 .0) (i .pre .0 .1) (i .pre .1) _ (b .bit-index .ensures) in
+    (written-in _ _ (memory (written b)) _ _ _ _ (i .pre .0 .0) (i .pre .0 .1) (i .pre .1) _ (b .bit-index .ensures), omega arith)
+
 returns : tie.Need-returns
 returns c =
-    let m = c .before .before .before in
+    let k = c .before .before .before in
+    let m = k .before .before .before .before in
     let l = m .before .before .before .before .before .before in
     let b = found l in
     let p = written b in
     let i = start p in
     rw (p .put-area .ensures)
     (allocated _ _ (memory p) _ _ _ _ (i .pre .0 .0) (i .pre .0 .1) (i .pre .1) _ (b .bit-index .ensures)
-    (m .mark-object .ensures .0) (l .put-object .ensures) (c .pack .ensures))
+    (m .mark-object .ensures .0) (k .clear-bits .ensures .0) (l .put-object .ensures) (c .pack .ensures))
 
 pub apply-allocate-spec : {M : Type 1} → statement M
 apply-allocate-spec =
@@ -73,7 +81,10 @@ apply-allocate-spec =
     put-object-requires
     (λ c. search needs)
     mark-object-requires
+    (λ c. search needs)
+    clear-bits-requires
     (λ c κs. search needs)
+    (λ c. search needs)
     (λ c. search needs)
     (λ c. search needs)
     (λ c. search needs)

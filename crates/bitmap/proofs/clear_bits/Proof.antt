@@ -5,7 +5,7 @@ use Prim.Native.Nat.{_+_, _-_, _/_, _≤_}
 use native.Mathlib.Omega.{arith}
 use lib.ListN.{length, length-set, set}
 use Rattle.bitmap.specs.Bitmap.{cleared, wordsHolding}
-use Rattle.bitmap.specs.Runs.{cleared-rest, cleared-last}
+use Rattle.bitmap.specs.Runs.{cleared-one, cleared-rest, cleared-last}
 use Rattle.bitmap.specs.MapWords.{counted}
 use Rattle.bitmap.proofs.clear_bits.Statement.{statement}
 use Rattle.bitmap.proofs.clear_bits.Tie as tie
@@ -21,31 +21,44 @@ returns : tie.Need-returns Inv-loop μ-loop
 unfolding cleared wordsHolding
 returns c = rw (c .if1 .taken) (refl, refl)
 
-loop-holds : tie.Need-loop-holds Inv-loop μ-loop
-unfolding cleared
-loop-holds c =
-    let a = c .before .before .args in
-    let none : a .w - a .w ≡ 0 = omega arith in
-    (rw none refl, omega arith, omega arith, omega arith, refl)
-
+-- they lie in one map word
 same-length : tie.Need-same-length Inv-loop μ-loop
 same-length c =
-    let l = c .before .before .before .loop in
-    length-set (l .map) (l .first / 64) _ ∙ l .inv .4
+    let a = c .before .before .before .before .before .args in
+    length-set (a .map .now) (a .w / 64) _
 
 returns-2 : tie.Need-returns-2 Inv-loop μ-loop
 returns-2 c =
+    let a = c .before .before .before .before .before .args in (
+      ap (set (a .map .now) (a .w / 64)) (c .without-digits .ensures) ∙ cleared-one (a .map .now) (a .w) (a .n) (omega arith) (omega arith) (c .before .before .if2 .taken),
+      counted (a .w) (a .n) (a .w) 0 (omega arith) (omega arith) (c .before .before .if2 .taken),
+    )
+
+loop-holds : tie.Need-loop-holds Inv-loop μ-loop
+unfolding cleared
+loop-holds c =
+    let a = c .before .before .before .args in
+    let none : a .w - a .w ≡ 0 = omega arith in
+    (rw none refl, omega arith, omega arith, omega arith, refl)
+
+same-length-2 : tie.Need-same-length-2 Inv-loop μ-loop
+same-length-2 c =
     let l = c .before .before .before .loop in
-    let a = c .before .before .before .before .before .before .args in (
-      ap (set (l .map) (l .first / 64)) (c .without-digits .ensures)
-          ∙ cleared-last (a .map .now) (l .map) (a .w) (l .first) (l .inv .0) (l .inv .1) (omega arith) (a .n) (l .inv .2) (c .before .before .if2 .taken) (omega arith),
-      counted (a .w) (a .n) (l .first) (l .iterations) (omega arith) (l .inv .3) (c .before .before .if2 .taken),
+    length-set (l .map) (l .first / 64) _ ∙ l .inv .4
+
+returns-3 : tie.Need-returns-3 Inv-loop μ-loop
+returns-3 c =
+    let l = c .before .before .before .loop in
+    let a = c .before .before .before .before .before .before .before .args in (
+      ap (set (l .map) (l .first / 64)) (c .without-digits2 .ensures)
+          ∙ cleared-last (a .map .now) (l .map) (a .w) (l .first) (l .inv .0) (l .inv .1) (omega arith) (a .n) (l .inv .2) (c .before .before .if3 .taken) (omega arith),
+      counted (a .w) (a .n) (l .first) (l .iterations) (omega arith) (l .inv .3) (c .before .before .if3 .taken),
     )
 
 loop-again : tie.Need-loop-again Inv-loop μ-loop
 loop-again c =
     let l = c .before .before .before .loop in
-    let a = c .before .before .before .before .before .before .args in (
+    let a = c .before .before .before .before .before .before .before .args in (
       ap (set (l .map) (l .first / 64)) (c .without-rest .ensures)
           ∙ cleared-rest (a .map .now) (l .map) (a .w) (l .first) (l .inv .0) (l .inv .1) (omega arith),
       omega arith,
@@ -58,6 +71,8 @@ pub clear-bits-spec : {M : Type 1} → statement M
 clear-bits-spec =
     tie.close
     (tie.spec
-    Inv-loop μ-loop returns (λ c. omega arith) (λ c. omega arith) loop-holds (λ c. omega arith)
+    Inv-loop μ-loop returns (λ c. omega arith) (λ c. omega arith)
     (λ c. omega arith) (λ c. omega arith) (λ c κs. omega arith) (λ c. omega arith) (λ c. omega arith) same-length returns-2
+    loop-holds (λ c. omega arith)
+    (λ c. omega arith) (λ c. omega arith) (λ c κs. omega arith) (λ c. omega arith) (λ c. omega arith) same-length-2 returns-3
     (λ c. omega arith) (λ c. omega arith) (λ c κs. omega arith) (λ c. omega arith) (λ c. omega arith) (λ c. omega arith) (λ c. omega arith) (λ c. omega arith) loop-again)

@@ -4,7 +4,7 @@ use Rattle.host_objects.proofs.scopes_allocate.Statement.{statement}
 use Rattle.host_objects.proofs.scopes_allocate.Tie as tie
 
 returns : tie.Need-returns
-returns c = c .before .before .before .before .before .before .allocate .ensures
+returns c = c .before .before .before .before .before .before .before .before .allocate .ensures
 
 pub scopes-allocate-spec : {M : Type 1} → statement M
-scopes-allocate-spec = tie.close (tie.spec (λ c κs. search needs) (λ c. search needs) (λ c. search needs) (λ c. search needs) returns)
+scopes-allocate-spec = tie.close (tie.spec (λ c κs. search needs) (λ c. search needs) (λ c. search needs) (λ c. search needs) (λ c. search needs) returns)

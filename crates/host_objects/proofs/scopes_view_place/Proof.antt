@@ -8,9 +8,9 @@ use Rattle.host_objects.proofs.scopes_view_place.Tie as tie
 
 returns : tie.Need-returns
 returns c =
-    let o = c .before .before .before .before in
+    let o = c .before .before .before .before .before in
     let a = o .args in
-    let m = memoryOf (now (a .permanent)) (now (a .scratch)) (now (a .map)) in
+    let m = memoryOf (now (a .permanent)) (now (a .scratch)) (now (a .map)) (now (a .written)) in
     let e = c .view-place .ensures in (
       e,
       record {

@@ -1,8 +1,11 @@
 -- `check_reference` meets its contract: one law for each way that it ends.
+use Prim.Native.Nat.{ℕ}
+use mathlib.Core.List.{List}
 use mathlib.Core.Path.{_≡_, sym, _∙_}
+use denote.Ref.{now}
 use borrow.Author.Needs.{needs}
 use Rattle.model.specs.State.{State, Memory}
-use Rattle.tables.specs.Contract.{stateIn, memoryIn}
+use Rattle.tables.specs.Contract.{stateIn, memoryOf}
 use borrow.Author.Tests.{not-true, not-false}
 use Rattle.objects.specs.declared.find.Found.the-variants.{At}
 use Rattle.objects.specs.Found.{foundOf}
@@ -17,37 +20,38 @@ start c = c .before .before .before .before
 abbrev state : tie.Else1 → State
 state c = stateIn (start c .args .words) (start c .args .bytes)
 
-abbrev memory : tie.Else1 → Memory
-memory c = memoryIn (start c .args .permanent) (start c .args .scratch) (start c .args .map)
+-- with any written map
+abbrev memory : tie.Else1 → List ℕ → Memory
+memory c x = memoryOf (now (start c .args .permanent)) (now (start c .args .scratch)) (now (start c .args .map)) x
 
 -- the object that is found
 abbrev past : tie.After-known-told → tie.Else1
 past c = c .before .before .before .before
 
-seen : (c : tie.After-known-told) → At (c .before .o .given .0 .0) ≡ foundOf (state (past c)) (memory (past c)) (start (past c) .args .x)
-seen c = sym (c .before .o .given .1) ∙ c .before .before .before .lookup .ensures .0
+seen : (c : tie.After-known-told) (x : List ℕ) → At (c .before .o .given .0 .0) ≡ foundOf (state (past c)) (memory (past c) x) (start (past c) .args .x)
+seen c x = sym (c .before .o .given .1) ∙ c .before .before .before .lookup .ensures .0 x
 
 returns : tie.Need-returns
-returns c = reference-null _ _ _ _ (c .if1 .taken)
+returns c x = reference-null _ _ _ _ (c .if1 .taken)
 
 lookup-requires : tie.Need-lookup-requires
-lookup-requires c κs = (start c .pre .0, start c .pre .1 .supplied)
+lookup-requires c κs = (start c .pre .0, start c .pre .1)
 
 returns-2 : tie.Need-returns-2
-returns-2 c = reference-nothing _ _ _ _ (c .before .before .before .if1 .left) (sym (c .enum-told .given .1) ∙ c .before .before .lookup .ensures .0)
+returns-2 c x = reference-nothing _ _ _ _ (c .before .before .before .if1 .left) (sym (c .enum-told .given .1) ∙ c .before .before .lookup .ensures .0 x)
 
 has-right-requires : tie.Need-has-right-requires
-has-right-requires c κs = (start (past c) .pre .0, start (past c) .pre .1 .called)
+has-right-requires c κs = (start (past c) .pre .0, start (past c) .pre .2)
 
 returns-3 : tie.Need-returns-3
-returns-3 c =
+returns-3 c x =
     let d = c .before .before in
-    reference-no-right _ _ _ _ (past d .if1 .left) _ (seen d) (sym (c .before .has-right .ensures) ∙ not-true (c .before .has-right .result) (c .if2 .taken))
+    reference-no-right _ (memory (past d) x) _ _ (past d .if1 .left) _ (seen d x) (sym (c .before .has-right .ensures) ∙ not-true (c .before .has-right .result) (c .if2 .taken))
 
 returns-4 : tie.Need-returns-4
-returns-4 c =
+returns-4 c x =
     let d = c .before .before in
-    reference-right _ _ _ _ (past d .if1 .left) _ (seen d) (sym (c .before .has-right .ensures) ∙ not-false (c .before .has-right .result) (c .if2 .left))
+    reference-right _ (memory (past d) x) _ _ (past d .if1 .left) _ (seen d x) (sym (c .before .has-right .ensures) ∙ not-false (c .before .has-right .result) (c .if2 .left))
 
 pub check-reference-spec : {M : Type 1} → statement M
 check-reference-spec =

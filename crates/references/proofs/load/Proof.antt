@@ -9,6 +9,7 @@ use Rattle.tables.specs.Contract.{stateIn, memoryIn}
 use Rattle.tables.specs.AnsweredLaws.{answered-refused, answered-accepted}
 use Rattle.callers.specs.Caller.{caller-refused, caller-admitted, admit-rest}
 use Rattle.objects.specs.declared.index.Part.the-variants.{Slots}
+use Rattle.objects.specs.Fits.{fits-stores}
 use Rattle.objects.specs.Verdict.{verdict-passed, verdict-stopped}
 use Rattle.objects.specs.Indexed.{wordOf, indexed-cases}
 use Rattle.objects.specs.Effects.{word-in, word-read}
@@ -18,13 +19,13 @@ use Rattle.references.proofs.load.Tie as tie
 
 -- past refusals 1 and 2: the entry, the state, the memory and the call
 abbrev start : tie.Else1 → tie.Start
-start c = c .before .before .before .before .before
+start c = c .before .before .before .before .before .before
 
 abbrev state : tie.Else1 → State
 state c = stateIn (start c .args .words) (start c .args .bytes)
 
 abbrev memory : tie.Else1 → Memory
-memory c = memoryIn (start c .args .permanent) (start c .args .scratch) (start c .args .map)
+memory c = memoryIn (start c .args .permanent) (start c .args .scratch) (start c .args .map) (start c .args .written)
 
 abbrev call : tie.Else1 → calls.Call
 call c = calls.load (start c .args .t) (start c .args .p) (start c .args .q)
@@ -37,7 +38,7 @@ abbrev past : tie.After-known-told2 → tie.Else1
 past c = c .before .before .before .before
 
 slot : (c : tie.After-known-told2) → (slotRest (state (past c)) (memory (past c)) (start (past c) .args .t) (start (past c) .args .p) (start (past c) .args .q) 0 ≡ 0) × (c .before .w .given .0 .0 ≡ wordOf Slots (state (past c)) (memory (past c)) (start (past c) .args .p) (start (past c) .args .q))
-slot c = verdict-passed indexed-cases _ _ (sym (c .before .w .given .1) ∙ c .before .before .before .check-index .ensures)
+slot c = verdict-passed indexed-cases _ _ (sym (c .before .w .given .1) ∙ c .before .before .before .check-index .ensures _)
 
 -- the word that the slot has, and the status
 word : (c : tie.After-word-at) → c .word-at .result ≡ wordAfter (state (past (c .before))) (memory (past (c .before))) (start (past (c .before)) .args .p) (start (past (c .before)) .args .q)
@@ -48,25 +49,25 @@ word c =
 status : (c : tie.After-check-reference) → c .check-reference .result ≡ loadRest (state (past (c .before .before))) (memory (past (c .before .before))) (start (past (c .before .before)) .args .t) (start (past (c .before .before)) .args .p) (start (past (c .before .before)) .args .q)
 status c =
     let d = past (c .before .before) in
-    load-slot (state d) (memory d) (start d .args .t) (start d .args .p) (start d .args .q) (slot (c .before .before) .0) (word (c .before)) (c .check-reference .ensures)
+    load-slot (state d) (memory d) (start d .args .t) (start d .args .p) (start d .args .q) (slot (c .before .before) .0) (word (c .before)) (c .check-reference .ensures _)
 
 returns : tie.Need-returns
 returns c =
-    let o = c .before .before .before .before .before in
+    let o = c .before .before .before .before .before .before in
     answered-refused _ _ _ (calls.load _ _ _) (o .pre) (caller-refused _ _ _ (c .before .check-caller .ensures) (c .if1 .taken) _) (c .if1 .taken)
 
 check-index-requires : tie.Need-check-index-requires
-check-index-requires c κs = (start c .pre, called c)
+check-index-requires c κs = (start c .pre, fits-stores _ _ (called c .supplied), called c .called)
 
 word-at-requires : tie.Need-word-at-requires
 word-at-requires c κs =
     let d = past c in
-    word-in Slots (state d) (memory d) _ _ _ (slot c .1) (start d .pre .good) (called d .supplied) _ (slot c .0)
+    word-in Slots (state d) (memory d) _ _ _ (slot c .1) (start d .pre .good) (fits-stores _ _ (called d .supplied)) _ (slot c .0)
 
 check-reference-requires : tie.Need-check-reference-requires
 check-reference-requires c κs =
     let d = past (c .before) in
-    (start d .pre, called d)
+    (start d .pre, fits-stores _ _ (called d .supplied), called d .called)
 
 returns-2 : tie.Need-returns-2
 returns-2 c =
@@ -77,7 +78,7 @@ returns-3 : tie.Need-returns-3
 returns-3 c =
     let a = c .before .before .before in
     let d = a .before in
-    let e = verdict-stopped indexed-cases _ _ (sym (c .before .status .given .1) ∙ a .check-index .ensures) in
+    let e = verdict-stopped indexed-cases _ _ (sym (c .before .status .given .1) ∙ a .check-index .ensures _) in
     answered-refused _ _ (memory d) (call d) (start d .pre) (load-no-slot _ _ _ _ _ (e .0) (e .1) ∙ sym (admit-rest _ _ _ (called d) _)) (e .1)
 
 returns-4 : tie.Need-returns-4

@@ -9,6 +9,7 @@ use Rattle.tables.specs.Contract.{stateIn, memoryIn}
 use Rattle.tables.specs.AnsweredLaws.{answered-refused, answered-accepted}
 use Rattle.callers.specs.Caller.{caller-refused, caller-admitted, admit-rest}
 use Rattle.objects.specs.declared.index.Part.the-variants.{Slots}
+use Rattle.objects.specs.Fits.{fits-stores}
 use Rattle.objects.specs.Verdict.{verdict-passed, verdict-stopped}
 use Rattle.objects.specs.Indexed.{wordOf, indexed-cases}
 use Rattle.objects.specs.Effects.{word-in, word-written}
@@ -18,13 +19,13 @@ use Rattle.references.proofs.store.Tie as tie
 
 -- past refusals 1 and 2: the entry, the state, the memory and the call
 abbrev start : tie.Else1 → tie.Start
-start c = c .before .before .before .before .before .before .before
+start c = c .before .before .before .before .before .before .before .before
 
 abbrev state : tie.Else1 → State
 state c = stateIn (start c .args .words) (start c .args .bytes)
 
 abbrev memory : tie.Else1 → Memory
-memory c = memoryIn (start c .args .permanent) (start c .args .scratch) (start c .args .map)
+memory c = memoryIn (start c .args .permanent) (start c .args .scratch) (start c .args .map) (start c .args .written)
 
 abbrev call : tie.Else1 → calls.Call
 call c = calls.store (start c .args .t) (start c .args .p) (start c .args .q) (start c .args .target)
@@ -37,29 +38,29 @@ abbrev past : tie.After-known-told2 → tie.Else1
 past c = c .before .before .before .before .before .before
 
 found : (c : tie.After-known-told2) → (storeRest (state (past c)) (memory (past c)) (start (past c) .args .t) (start (past c) .args .p) (start (past c) .args .q) (start (past c) .args .target) ≡ 0) × (c .before .w .given .0 .0 ≡ wordOf Slots (state (past c)) (memory (past c)) (start (past c) .args .p) (start (past c) .args .q))
-found c = verdict-passed indexed-cases _ _ (sym (c .before .w .given .1) ∙ c .before .before .before .check-store .ensures)
+found c = verdict-passed indexed-cases _ _ (sym (c .before .w .given .1) ∙ c .before .before .before .check-store .ensures _)
 
 returns : tie.Need-returns
 returns c =
-    let o = c .before .before .before .before .before .before .before in
+    let o = c .before .before .before .before .before .before .before .before in
     answered-refused _ _ _ (calls.store _ _ _ _) (o .pre) (caller-refused _ _ _ (c .before .check-caller .ensures) (c .if1 .taken) _) (c .if1 .taken)
 
 check-store-requires : tie.Need-check-store-requires
 check-store-requires c κs =
     let d = c .before .before in
-    (start d .pre, called d)
+    (start d .pre, fits-stores _ _ (called d .supplied), called d .called)
 
 put-word-requires : tie.Need-put-word-requires
 put-word-requires c κs =
     let k = c .before .before in
     let d = past k in
-    word-in Slots (state d) (memory d) _ _ _ (found k .1) (start d .pre .good) (called d .supplied) _ (store-slot _ _ _ _ _ _ (found k .0))
+    word-in Slots (state d) (memory d) _ _ _ (found k .1) (start d .pre .good) (fits-stores _ _ (called d .supplied)) _ (store-slot _ _ _ _ _ _ (found k .0))
 
 returns-2 : tie.Need-returns-2
 returns-2 c =
     let a = c .before .before .before in
     let d = a .before .before .before in
-    let e = verdict-stopped indexed-cases _ _ (sym (c .before .status .given .1) ∙ a .check-store .ensures) in
+    let e = verdict-stopped indexed-cases _ _ (sym (c .before .status .given .1) ∙ a .check-store .ensures _) in
     answered-refused _ _ (memory d) (call d) (start d .pre) (e .0 ∙ sym (admit-rest _ _ _ (called d) _)) (e .1)
 
 returns-3 : tie.Need-returns-3

@@ -7,11 +7,11 @@ use Rattle.setup.proofs.put_set_up_words.Tie as tie
 
 returns : tie.Need-returns
 returns c =
-    rw (c .put-first-words .ensures) (accepted-holds _ _ _ (sym (c .before .before .before .pre) ∙ c .before .before .if1 .taken))
+    rw (c .put-first-words .ensures) (accepted-holds _ _ _ _ (sym (c .before .before .before .pre) ∙ c .before .before .if1 .taken))
 
 returns-2 : tie.Need-returns-2
 returns-2 c =
-    rw (c .put-first-words2 .ensures) (refused-holds _ _ _ (λ z. c .before .before .if1 .left (c .before .before .before .pre ∙ z)))
+    rw (c .put-first-words2 .ensures) (refused-holds _ _ _ _ (λ z. c .before .before .if1 .left (c .before .before .before .pre ∙ z)))
 
 pub put-set-up-words-spec : {M : Type 1} → statement M
 put-set-up-words-spec =

@@ -12,7 +12,7 @@ returns c =
     record {
       status-is = c .before .before .before .before .check-set-up .ensures;
       holds = h;
-      ready = record { sized = h .sized; good = subst Good (sym (h .state)) (good-set-up _ _ _) };
+      ready = record { sized = h .sized; good = subst Good (sym (h .state)) (good-set-up _ _ _ _) };
     }
 
 pub set-up-in-place-spec : {M : Type 1} → statement M

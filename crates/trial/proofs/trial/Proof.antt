@@ -12,13 +12,13 @@ returns c = λ z. absurd (c .if1 .taken z)
 
 -- the load left what the next call asks, whatever memory is kept
 scopes-start-requires : tie.Need-scopes-start-requires
-scopes-start-requires c κs = c .before .before .before .before .before .scopes-load-rights .ensures (memoryOf [] [] []) .ready
+scopes-start-requires c κs = c .before .before .before .before .before .before .scopes-load-rights .ensures (memoryOf [] [] [] []) .ready
 
 returns-2 : tie.Need-returns-2
 returns-2 c = λ z.
-    let second : tie.After-scopes-allocate = c .before .before .before .before .before .before .before .before .before .before .before .before in
-    let first : tie.After-scopes-start = second .before .before .before .before .before .before in
-    let loaded : tie.After-scopes-load-rights = first .before .before .before .before .before .before in
+    let second : tie.After-scopes-allocate = c .before .before .before .before .before .before .before .before .before .before .before .before .before .before .before in
+    let first : tie.After-scopes-start = second .before .before .before .before .before .before .before in
+    let loaded : tie.After-scopes-load-rights = first .before .before .before .before .before .before .before in
     let accepted : tie.Else1 = loaded .before .before .before in
     record {
       lines = _;
@@ -36,6 +36,6 @@ pub trial-spec : {M : Type 1} → statement M
 trial-spec =
     tie.close
     (tie.spec
-    (λ c κs. search needs) (λ c. search needs) (λ c. search needs) (λ c. search needs) returns
-    (λ c κs. search needs) scopes-start-requires (λ c κs. search needs) (λ c κs. search needs) (λ c. search needs) (λ c. search needs) (λ c. search needs)
+    (λ c κs. search needs) (λ c. search needs) (λ c. search needs) (λ c. search needs) (λ c. search needs) returns
+    (λ c κs. search needs) scopes-start-requires (λ c κs. search needs) (λ c κs. search needs) (λ c. search needs) (λ c. search needs) (λ c. search needs) (λ c. search needs)
     returns-2)

@@ -10,13 +10,13 @@ use Rattle.views.proofs.view.Statement.{statement}
 use Rattle.views.proofs.view.Tie as tie
 
 abbrev start : tie.After-view-place → tie.Start
-start c = c .before .before .before .before
+start c = c .before .before .before .before .before
 
 abbrev state : tie.After-view-place → State
 state c = stateIn (start c .args .words) (start c .args .bytes)
 
 abbrev memory : tie.After-view-place → Memory
-memory c = memoryIn (start c .args .permanent) (start c .args .scratch) (start c .args .map)
+memory c = memoryIn (start c .args .permanent) (start c .args .scratch) (start c .args .map) (start c .args .written)
 
 low : (c : tie.After-view-place) → c .view-place .result .from + c .view-place .result .len ≤ 16384
 low c = place-low (state c) (memory c) (start c .args .t) (start c .args .p) _ (c .view-place .ensures) (start c .pre .good)

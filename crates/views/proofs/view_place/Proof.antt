@@ -9,13 +9,13 @@ use Rattle.views.proofs.view_place.Statement.{statement}
 use Rattle.views.proofs.view_place.Tie as tie
 
 abbrev start : tie.After-area → tie.Start
-start c = c .before .before .before .before
+start c = c .before .before .before .before .before
 
 abbrev state : tie.After-area → State
 state c = stateIn (start c .args .words) (start c .args .bytes)
 
 abbrev memory : tie.After-area → Memory
-memory c = memoryIn (start c .args .permanent) (start c .args .scratch) (start c .args .map)
+memory c = memoryIn (start c .args .permanent) (start c .args .scratch) (start c .args .map) (start c .args .written)
 
 placed-requires : tie.Need-placed-requires
 placed-requires c κs =

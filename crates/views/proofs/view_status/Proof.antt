@@ -10,13 +10,13 @@ use Rattle.views.proofs.view_status.Statement.{statement}
 use Rattle.views.proofs.view_status.Tie as tie
 
 abbrev start : tie.After-check-view → tie.Start
-start c = c .before .before .before .before
+start c = c .before .before .before .before .before
 
 abbrev state : tie.After-check-view → State
 state c = stateIn (start c .args .words) (start c .args .bytes)
 
 abbrev memory : tie.After-check-view → Memory
-memory c = memoryIn (start c .args .permanent) (start c .args .scratch) (start c .args .map)
+memory c = memoryIn (start c .args .permanent) (start c .args .scratch) (start c .args .map) (start c .args .written)
 
 abbrev call : tie.After-check-view → calls.Call
 call c = calls.viewStatus (start c .args .t) (start c .args .p)

@@ -1,7 +1,7 @@
 -- `lookup` meets its contract: one law for each way that it ends.
 use mathlib.Core.Path.{_≡_, ap, subst, sym, _∙_}
-use Prim.Native.Nat.{ℕ, _+_, _<_, _≤_}
-use mathlib.Core.List.{List}
+use Prim.Native.Nat.{ℕ, _+_, _-_, _<_, _≤_}
+use mathlib.Core.List.{List, []}
 use lib.ListN.{length, getD}
 use native.Mathlib.Omega.{arith}
 use borrow.Author.Needs.{needs}
@@ -11,10 +11,10 @@ use Rattle.layout.specs.HandleLaws.{area-lt}
 use Rattle.model.specs.declared.Area.{Area}
 use Rattle.model.specs.State.{State, Memory, isScope}
 use Rattle.tables.specs.Laws.{area-read}
-use Rattle.tables.specs.Contract.{stateIn, memoryIn}
+use Rattle.tables.specs.Contract.{stateIn, memoryOf}
 use Rattle.objects.specs.Found.{endsOf}
 use Rattle.objects.specs.Places.{refused-as}
-use Rattle.objects.specs.Steps.{HandleRead, offset-low, other-generation, past-used, word-low, word-in, bit-fits, bit-in, no-bit, ends}
+use Rattle.objects.specs.Steps.{HandleRead, other-generation, past-used, word-low, word-in, bit-fits, bit-in, no-bit, ends}
 use Rattle.objects.proofs.find.lookup.Statement.{statement}
 use Rattle.objects.proofs.find.lookup.Tie as tie
 
@@ -31,11 +31,12 @@ start c = c .before .before .before .before .before .before .before .before
 abbrev state : tie.After-area-at → State
 state c = stateIn (start c .args .words) (start c .args .bytes)
 
-abbrev memory : tie.After-area-at → Memory
-memory c = memoryIn (start c .args .permanent) (start c .args .scratch) (start c .args .map)
+-- with any written map
+abbrev memory : tie.After-area-at → List ℕ → Memory
+memory c x = memoryOf (now (start c .args .permanent)) (now (start c .args .scratch)) (now (start c .args .map)) x
 
-read : (c : tie.After-area-at) → HandleRead (now (start c .args .words)) (now (start c .args .bytes)) (memory c) (start c .args .handle) (c .before .before .before .before .area .result) (c .before .before .before .offset .result) (c .area-at .result)
-read c = record {
+read : (c : tie.After-area-at) (x : List ℕ) → HandleRead (now (start c .args .words)) (now (start c .args .bytes)) (memory c x) (start c .args .handle) (c .before .before .before .before .area .result) (c .before .before .before .offset .result) (c .area-at .result)
+read c x = record {
   ready = start c .pre .0;
   fitting = start c .pre .1;
   area-is = c .before .before .before .before .area .ensures;
@@ -57,35 +58,35 @@ within e = subst (λ (n : ℕ). found e .before .before .before .offset .result 
 returns : tie.Need-returns
 returns c =
     let d = c .before .before .before in
-    refused-as (state d) (memory d) (start d .args .handle) (start d .pre .0 .good) (other-generation _ _ _ _ _ _ _ (read d) _ (c .before .before .generation .ensures) (c .if1 .taken))
+    refused-as (state d) (memory d) (start d .args .handle) (start d .pre .0 .good) (λ x. other-generation _ _ _ _ _ _ _ (read d x) _ (c .before .before .generation .ensures) (c .if1 .taken))
 
 returns-2 : tie.Need-returns-2
 returns-2 c =
     let d = c .before .before .before .before .before in
-    refused-as (state d) (memory d) (start d .args .handle) (start d .pre .0 .good) (past-used _ _ _ _ _ _ _ (read d) (subst (λ (n : ℕ). n ≤ d .before .before .before .offset .result) (used-is (c .before)) (c .if2 .taken)))
+    refused-as (state d) (memory d) (start d .args .handle) (start d .pre .0 .good) (λ x. past-used _ _ _ _ _ _ _ (read d x) (subst (λ (n : ℕ). n ≤ d .before .before .before .offset .result) (used-is (c .before)) (c .if2 .taken)))
 
 add-at : tie.Need-add-at
-add-at c = omega (arith, word-low _ _ _ _ _ _ _ (read (found (c .before))) (within (c .before)))
+add-at c = omega (arith, word-low _ _ _ _ _ _ _ (read (found (c .before)) []) (within (c .before)))
 
 -- the place of the word in its store, and of its map bit
 abbrev place : tie.Else2 → ℕ
 place e = found e .area-at .result .start + found e .before .before .before .offset .result
 
-index : (e : tie.Else2) → found e .before .first-bit .result + place e ≡ pick (isScope (found e .before .before .before .before .area .result)) (length (memory (found e) .permanent)) 0 + place e
+index : (e : tie.Else2) → found e .before .first-bit .result + place e ≡ pick (isScope (found e .before .before .before .before .area .result)) (length (memory (found e) [] .permanent)) 0 + place e
 index e = ap (λ (n : ℕ). n + place e) (found e .before .first-bit .ensures)
 
 add-bit : tie.Need-add-bit
-add-bit c = omega (arith, bit-fits _ _ _ _ _ _ _ (read (found (c .before))) (within (c .before)) _ (index (c .before)))
+add-bit c = omega (arith, bit-fits _ _ _ _ _ _ _ (read (found (c .before)) []) (within (c .before)) _ (index (c .before)))
 
 bit-requires : tie.Need-bit-requires
-bit-requires c κs = bit-in _ _ _ _ _ _ _ (read (found (c .before))) (within (c .before)) _ (index (c .before))
+bit-requires c κs = bit-in _ _ _ _ _ _ _ (read (found (c .before)) []) (within (c .before)) _ (index (c .before))
 
 returns-3 : tie.Need-returns-3
 returns-3 c =
     let e = c .before .before .before in
     let d = found e in
     refused-as (state d) (memory d) (start d .args .handle) (start d .pre .0 .good)
-    (no-bit _ _ _ _ _ _ _ (read d) (within e) _ (index e) (sym (c .before .bit .ensures) ∙ c .if3 .taken))
+    (λ x. no-bit _ _ _ _ _ _ _ (read d x) (within e) _ (index e) (sym (c .before .bit .ensures) ∙ c .if3 .taken))
 
 -- past the map bit: the header lies in its store
 abbrev kept : tie.Else3 → tie.Else2
@@ -94,7 +95,7 @@ kept c = c .before .before .before
 in-store : (c : tie.Else3) → place (kept c) < length (now (found (kept c) .before .before .store-of .result))
 in-store c =
     subst (λ (l : List ℕ). place (kept c) < length l) (sym (found (kept c) .before .before .store-of .ensures))
-    (word-in _ _ _ _ _ _ _ (read (found (kept c))) (within (kept c)))
+    (word-in _ _ _ _ _ _ _ (read (found (kept c)) []) (within (kept c)))
 
 mul-header : tie.Need-mul-header
 mul-header c = let h = in-store c in search needs
@@ -102,19 +103,16 @@ mul-header c = let h = in-store c in search needs
 shared-slice-read-header : tie.Need-shared-slice-read-header
 shared-slice-read-header c = in-store (c .before)
 
-whole-requires : tie.Need-whole-requires
-whole-requires c κs = offset-low _ _ _ _ _ _ _ (read (found (kept (c .before))))
-
 returns-4 : tie.Need-returns-4
 returns-4 c =
     let b = c .before .before in
     let e = kept b in
     let d = found e in
     refused-as (state d) (memory d) (start d .args .handle) (start d .pre .0 .good)
-    (c .whole .ensures
-    ∙ ap (endsOf _ _ _ _) (used-is (e .before))
-    ∙ ap (λ (l : List ℕ). endsOf (getD l (place e) 0) (d .before .before .before .before .area .result) (place e) (d .before .before .before .offset .result) (d .area-at .result .used)) (d .before .before .store-of .ensures)
-    ∙ ends _ _ _ _ _ _ _ (read d) (within e) _ (index e)
+    (λ x. c .whole .ensures
+    ∙ ap (λ (n : ℕ). endsOf (getD (now (d .before .before .store-of .result)) (place e) 0) (d .before .before .before .before .area .result) (place e) (d .before .first-bit .result + place e) (n - d .before .before .before .offset .result)) (used-is (e .before))
+    ∙ ap (λ (l : List ℕ). endsOf (getD l (place e) 0) (d .before .before .before .before .area .result) (place e) (d .before .first-bit .result + place e) (d .area-at .result .used - d .before .before .before .offset .result)) (d .before .before .store-of .ensures)
+    ∙ ends _ _ _ _ _ _ _ (read d x) (within e) _ (index e)
     (sym (e .before .before .before .before .generation .ensures) ∙ e .before .before .if1 .left)
     (λ z. b .if3 .left (b .before .bit .ensures ∙ z)))
 
@@ -126,5 +124,5 @@ lookup-spec =
     returns
     (λ c κs. low (c .before .before .before .before .before .before))
     returns-2
-    add-at add-bit bit-requires returns-3
-    mul-header shared-slice-read-header whole-requires returns-4)
+    (λ c. search needs) add-at add-bit bit-requires returns-3
+    mul-header shared-slice-read-header (λ c κs. search needs) returns-4)

@@ -4,7 +4,7 @@ use native.Mathlib.Omega.{arith}
 use Prim.Native.Nat.{ℕ, _+_}
 use borrow.Author.Needs.{needs}
 use Rattle.model.specs.State.{isScope}
-use Rattle.objects.specs.Steps.{pick-most}
+use Rattle.objects.specs.Places.{pick-most}
 use Rattle.objects.proofs.store.bit_index.Statement.{statement}
 use Rattle.objects.proofs.store.bit_index.Tie as tie
 

@@ -6,12 +6,12 @@ use Rattle.reader.proofs.feed.answer_line.Tie as tie
 
 returns : tie.Need-returns
 returns c =
-    answered-bad _ _ _ _ (c .before .before .before .before .before .before .pre .0) (c .enum-told .given .1) (c .before .before .parse-line .ensures)
+    answered-bad _ _ _ _ (c .before .before .before .before .before .before .before .pre .0) (c .enum-told .given .1) (c .before .before .parse-line .ensures)
 
 returns-2 : tie.Need-returns-2
 returns-2 c =
-    let f = c .before .before .before .before .before .before .before .before .before .before .before .before .before in
-    answered-frame _ _ _ _ _ _ _ (f .f .given .1) (f .before .before .parse-line .ensures) (c .before .before .before .before .before .before .carry-out .ensures)
+    let f = c .before .before .before .before .before .before .before .before .before .before .before .before .before .before .before .before in
+    answered-frame _ _ _ _ _ _ _ (f .f .given .1) (f .before .before .parse-line .ensures) (c .before .before .before .before .before .before .before .before .carry-out .ensures)
 
 pub answer-line-spec : {M : Type 1} → statement M
 answer-line-spec =
@@ -22,6 +22,7 @@ answer-line-spec =
     (λ c. search needs)
     returns
     (λ c κs. search needs)
+    (λ c. search needs)
     (λ c. search needs)
     (λ c. search needs)
     (λ c. search needs)

@@ -5,13 +5,13 @@ use Rattle.scopes.proofs.memory.carry_memory.Statement.{statement}
 use Rattle.scopes.proofs.memory.carry_memory.Tie as tie
 
 returns : tie.Need-returns
-returns c = rw (c .before .before .before .before .before .before .before .before .before .before .before .enum-told .given .1) (c .before .before .before .before .before .before .allocate .ensures)
+returns c = rw (c .before .before .before .before .before .before .before .before .before .before .before .before .before .before .enum-told .given .1) (c .before .before .before .before .before .before .before .before .allocate .ensures)
 
 returns-2 : tie.Need-returns-2
-returns-2 c = rw (c .before .before .before .before .before .before .before .before .before .enum-told2 .given .1) (c .before .before .before .before .store .ensures)
+returns-2 c = rw (c .before .before .before .before .before .before .before .before .before .before .enum-told2 .given .1) (c .before .before .before .before .store .ensures)
 
 returns-3 : tie.Need-returns-3
-returns-3 c = rw (c .before .before .before .before .before .before .before .before .before .enum-told3 .given .1) (c .before .before .before .before .write .ensures)
+returns-3 c = rw (c .before .before .before .before .before .before .before .before .before .before .before .before .enum-told3 .given .1) (c .before .before .before .before .before .before .write .ensures)
 
 pub carry-memory-spec : {M : Type 1} → statement M
 carry-memory-spec =
@@ -20,6 +20,6 @@ carry-memory-spec =
     (λ c. search needs) (λ c κs. search needs)
     (λ c. search needs) (λ c κs. search needs)
     (λ c. search needs) (λ c κs. search needs)
-    (λ c. search needs) (λ c. search needs) (λ c. search needs) returns
-    (λ c. search needs) (λ c. search needs) (λ c. refl) returns-2
-    (λ c. search needs) (λ c. search needs) (λ c. refl) returns-3)
+    (λ c. search needs) (λ c. search needs) (λ c. search needs) (λ c. search needs) returns
+    (λ c. search needs) (λ c. search needs) (λ c. refl) (λ c. refl) returns-2
+    (λ c. search needs) (λ c. search needs) (λ c. refl) (λ c. search needs) returns-3)

@@ -1,0 +1,2 @@
+-- The laws of a data word's bit in the written map.
+pub mod Written
