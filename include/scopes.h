@@ -5,25 +5,28 @@
  * how to build and link. For C11, C99 with gcc or clang, and C++11, or later ones.
  *
  * What is proved. The archive is compiled from proved code (the crates host_.. of the folder crates). For any arguments
- * whatever, each call's status, its value, the state that it leaves and every word of the three lent buffers are those that
- * the specification (document 01) defines; a refused call changes nothing; no call touches memory outside what it is lent;
- * every call ends (the contract `Answers` of each function). Over every list of calls, by any threads and under any rights
- * that are loaded, of the tables and buffers that the host then holds: a thread in a scope stands in all its ancestors, no
- * reference outlives its object, and a dead handle is never accepted again (the theorem `served-claims`, crates/served).
- * Not covered: the compiler's back end, the few lines of C below, and a host that breaks these rules.
+ * whatever, each call's status, its value, the state that it leaves and every word of the four lent buffers are those that
+ * the specification defines (document 01, and of document 02 the requests that have landed); a refused call changes nothing;
+ * no call touches memory outside what it is lent; every call ends (the contract `Answers` of each function). Over every list
+ * of calls, by any threads and under any rights that are loaded, of the tables and buffers that the host then holds: a
+ * thread in a scope stands in all its ancestors; no reference outlives its object; a dead handle is never accepted again;
+ * and a read of a live handle, by a thread with right U, at an index below the object's data words gives the last word
+ * accepted for that handle and index, or SCOPES_UNWRITTEN if there is none since the object was made (the theorem
+ * `served-claims`, crates/served). Not covered: the compiler's back end, the few lines of C below, and a host that breaks
+ * these rules.
  *
  * What the caller owes. A proof about these functions rests on it, and C cannot check it:
  *  - A state comes only from a set-up and from the calls made with it since. Never write into its words or bytes, never
  *    make one by hand, and never put an older copy back. The same holds of a scopes_stack, and of a scopes_core's fields.
  *  - Words and bytes that are passed together belong to one state.
  *  - Every pointer is valid for the length beside it (a buffer's in words, a text's in bytes) and aligned for its type. A
- *    buffer or a text of length 0 may be null; tables, handles and records may not. The state and the three buffers do not
+ *    buffer or a text of length 0 may be null; tables, handles and records may not. The state and the four buffers do not
  *    overlap, nor do the state and a text. A buffer's length other than set-up's is no fault: it is refused by 1.
  *  - One call at a time for a state: calls by several threads need a lock around them. Calls whose pointers are all const
  *    only read: any number of them may run at once, while no other call on that state does.
  *  - The lent words may hold anything, and a call does what is specified whatever they hold. But what is said of a
- *    whole list of calls (no reference outlives its object) holds only while nothing else writes the permanent
- *    store, the scratch store and the start map between the calls.
+ *    whole list of calls (no reference outlives its object, a read gives the last word written) holds only while nothing
+ *    else writes the permanent store, the scratch store, the start map or the written map between the calls.
  *
  * What a call does not do. A refused call writes nothing, not even the same bytes; nor does a call whose pointers are all
  * const write anything (hosts/c/read_only.c tries both in read-only memory). There are two exceptions: a set-up writes its
@@ -91,8 +94,8 @@ extern "C" {
 
 /* ---- Version */
 
-/* Major * 1,000,000 + minor * 1,000 + patch: 0.2.0. */
-#define SCOPES_VERSION 2000u
+/* Major * 1,000,000 + minor * 1,000 + patch: 0.3.0. */
+#define SCOPES_VERSION 3000u
 
 /* The version of the archive, to compare with that of this header. */
 SCOPES_RESULT
@@ -110,7 +113,7 @@ uint64_t scopes_version(void);
 #define SCOPES_CALL_STACK 256u        /* most bytes of the machine's stack that a call takes */
 #define SCOPES_LAST_GENERATION 17592186044415u /* 2^44 - 1: a scope is opened at most so often */
 
-/* Words of the start map for stores of these lengths. */
+/* Words of the start map, and of the written map, for stores of these lengths. */
 #define SCOPES_MAP_WORDS(permanent_len, scratch_len) (((permanent_len) + (scratch_len) + 63u) / 64u)
 
 /* ---- Areas: 2 to 63 are scopes */
@@ -152,6 +155,7 @@ typedef enum scopes_status {
     SCOPES_ASSIGNMENT = 16,      /* the assignment rule forbids the reference */
     SCOPES_GENERATIONS_OUT = 17, /* scope not open, its generation the last one */
     SCOPES_NO_FRAME = 18,        /* a line is no frame: of the program alone, no function gives it */
+    SCOPES_UNWRITTEN = 19,       /* read: nobody wrote this data word since the object was made */
     SCOPES_TABLE = 23,           /* not 36 digits, a digit other than 0 and 1, or A without U */
     SCOPES_RUNNING = 24          /* a thread is started */
 } scopes_status;
@@ -181,6 +185,7 @@ static inline const char *scopes_status_name(uint64_t status)
         SCOPES_NAMED(SCOPES_ASSIGNMENT);
         SCOPES_NAMED(SCOPES_GENERATIONS_OUT);
         SCOPES_NAMED(SCOPES_NO_FRAME);
+        SCOPES_NAMED(SCOPES_UNWRITTEN);
         SCOPES_NAMED(SCOPES_TABLE);
         SCOPES_NAMED(SCOPES_RUNNING);
         default: return "unknown status";
@@ -209,6 +214,7 @@ static inline const char *scopes_status_name(uint64_t status)
  *   14        a slot or word of an array: ArrayIndexOutOfBoundsException; a field: none, the compiler has its number
  *   15        none: as 13, not live
  *   16        IllegalAssignmentError
+ *   19        none: a field or an element that nobody wrote is 0
  *   18, 23, 24   none
  *
  *   set-up          none: the machine's own start, after which HeapMemory.instance() and ImmortalMemory.instance() are there
@@ -278,6 +284,8 @@ typedef struct scopes_core {
     size_t scratch_len;
     uint64_t *map;
     size_t map_len;
+    uint64_t *written;
+    size_t written_len;
 } scopes_core;
 
 /* The layouts that the archive has, and the Rust wrapper beside it. */
@@ -294,7 +302,7 @@ SCOPES_OFFSET_IS(scopes_view, from, 16);
 SCOPES_OFFSET_IS(scopes_view, len, 24);
 SCOPES_SIZE_IS(scopes_stack, 40);
 SCOPES_OFFSET_IS(scopes_stack, entries, 8);
-SCOPES_SIZE_IS(scopes_core, 7552);
+SCOPES_SIZE_IS(scopes_core, 7616);
 SCOPES_OFFSET_IS(scopes_core, words, 0);
 SCOPES_OFFSET_IS(scopes_core, bytes, 4384);
 SCOPES_OFFSET_IS(scopes_core, permanent, 7496);
@@ -303,10 +311,16 @@ SCOPES_OFFSET_IS(scopes_core, scratch, 7512);
 SCOPES_OFFSET_IS(scopes_core, scratch_len, 7520);
 SCOPES_OFFSET_IS(scopes_core, map, 7528);
 SCOPES_OFFSET_IS(scopes_core, map_len, 7536);
+SCOPES_OFFSET_IS(scopes_core, written, 7544);
+SCOPES_OFFSET_IS(scopes_core, written_len, 7552);
 
 /* ---- Set-up: a first state for a heap and an immortal memory of these sizes in words, with the built-in rights table.
- * Refused by 1 unless heap + immortal is permanent_len, no store is longer than 16,384 words, and the map has
- * SCOPES_MAP_WORDS words; the state is then the one of empty buffers. Writes no lent word. */
+ * Refused by 1 unless heap + immortal is permanent_len, no store is longer than 16,384 words, and each map has
+ * SCOPES_MAP_WORDS words; the state is then the one of empty buffers. Writes no lent word.
+ *
+ * Both maps have a bit for each word of the stores, the permanent store's words first: word w has bit w mod 64 of map word
+ * w / 64. In the start map a 1 says that an object begins there, in the written map that the data word was written since its
+ * object was made. An allocation puts both in order for the words of its object, so they too may hold anything at first. */
 
 /* Writes the state into the host's own words and bytes, whatever they hold, and gives the status. Where the words lie at a
  * multiple of 64 bytes and the bytes right behind them, no display crosses a cache line, and entries are fastest. */
@@ -316,6 +330,7 @@ uint64_t scopes_set_up_in_place(
     const uint64_t *permanent, size_t permanent_len,
     const uint64_t *scratch, size_t scratch_len,
     const uint64_t *map, size_t map_len,
+    const uint64_t *written, size_t written_len,
     uint64_t heap, uint64_t immortal);
 
 /* Gives the state by value. */
@@ -324,9 +339,10 @@ scopes_new_state scopes_set_up(
     const uint64_t *permanent, size_t permanent_len,
     const uint64_t *scratch, size_t scratch_len,
     const uint64_t *map, size_t map_len,
+    const uint64_t *written, size_t written_len,
     uint64_t heap, uint64_t immortal);
 
-/* ---- Calls. Each takes the state and the three buffers of its set-up; the refusals stand in the order of their tests. */
+/* ---- Calls. Each takes the state and the four buffers of its set-up; the refusals stand in the order of their tests. */
 
 /* Starts a thread of a kind. Refusals 1, 2, 3, 4. Value 0. */
 SCOPES_RESULT SCOPES_NONNULL(1, 2)
@@ -335,6 +351,7 @@ scopes_answer scopes_start(
     const uint64_t *permanent, size_t permanent_len,
     const uint64_t *scratch, size_t scratch_len,
     const uint64_t *map, size_t map_len,
+    const uint64_t *written, size_t written_len,
     uint64_t thread, uint64_t kind);
 
 /* Ends a thread. Refusals 1, 2, 11. Value 0. */
@@ -344,6 +361,7 @@ scopes_answer scopes_end(
     const uint64_t *permanent, size_t permanent_len,
     const uint64_t *scratch, size_t scratch_len,
     const uint64_t *map, size_t map_len,
+    const uint64_t *written, size_t written_len,
     uint64_t thread);
 
 /* Makes a scope of a size in words, from the next unused scratch words. Refusals 1, 2, 6, 7, 8. Value 0. */
@@ -353,6 +371,7 @@ scopes_answer scopes_make(
     const uint64_t *permanent, size_t permanent_len,
     const uint64_t *scratch, size_t scratch_len,
     const uint64_t *map, size_t map_len,
+    const uint64_t *written, size_t written_len,
     uint64_t thread, uint64_t area, uint64_t size);
 
 /* Enters an area. Refusals 1, 2, 6, 5, 9, 10, 17. The value is the area's generation. */
@@ -362,6 +381,7 @@ scopes_answer scopes_enter(
     const uint64_t *permanent, size_t permanent_len,
     const uint64_t *scratch, size_t scratch_len,
     const uint64_t *map, size_t map_len,
+    const uint64_t *written, size_t written_len,
     uint64_t thread, uint64_t area);
 
 /* Leaves the current area; a scope that its last thread leaves is emptied. Refusals 1, 2, 11. The value is the count of
@@ -372,16 +392,18 @@ scopes_answer scopes_exit(
     const uint64_t *permanent, size_t permanent_len,
     const uint64_t *scratch, size_t scratch_len,
     const uint64_t *map, size_t map_len,
+    const uint64_t *written, size_t written_len,
     uint64_t thread);
 
-/* Allocates an object in the thread's current area; its slots are null, its data words 0. Refusals 1, 2, 5, 12. The value is
- * its handle. */
+/* Allocates an object in the thread's current area; its slots are null, its data words 0 and unwritten. Refusals 1, 2, 5,
+ * 12. The value is its handle. */
 SCOPES_RESULT SCOPES_NONNULL(1, 2)
 scopes_answer scopes_allocate(
     uint64_t words[SCOPES_STATE_WORDS], const uint8_t bytes[SCOPES_STATE_BYTES],
     uint64_t *permanent, size_t permanent_len,
     uint64_t *scratch, size_t scratch_len,
     uint64_t *map, size_t map_len,
+    uint64_t *written, size_t written_len,
     uint64_t thread, uint64_t slots, uint64_t data_words);
 
 /* Stores a reference, a handle or null, in a slot. Refusals 1, 2, 13, 5, 14, 15, 5, 16. Value 0. */
@@ -391,6 +413,7 @@ scopes_answer scopes_store(
     uint64_t *permanent, size_t permanent_len,
     uint64_t *scratch, size_t scratch_len,
     const uint64_t *map, size_t map_len,
+    const uint64_t *written, size_t written_len,
     uint64_t thread, uint64_t object, uint64_t slot, uint64_t target);
 
 /* Loads a reference. Refusals 1, 2, 13, 5, 14, 15, 5. The value is the stored handle, or null. */
@@ -400,27 +423,30 @@ scopes_answer scopes_load(
     const uint64_t *permanent, size_t permanent_len,
     const uint64_t *scratch, size_t scratch_len,
     const uint64_t *map, size_t map_len,
+    const uint64_t *written, size_t written_len,
     uint64_t thread, uint64_t object, uint64_t slot);
 
-/* Writes a data word. Refusals 1, 2, 13, 5, 14. Value 0. */
+/* Writes a data word; writing 0 is a writing too. Refusals 1, 2, 13, 5, 14. Value 0. */
 SCOPES_RESULT SCOPES_NONNULL(1, 2)
 scopes_answer scopes_write(
     const uint64_t words[SCOPES_STATE_WORDS], const uint8_t bytes[SCOPES_STATE_BYTES],
     uint64_t *permanent, size_t permanent_len,
     uint64_t *scratch, size_t scratch_len,
     const uint64_t *map, size_t map_len,
+    uint64_t *written, size_t written_len,
     uint64_t thread, uint64_t object, uint64_t index, uint64_t word);
 
-/* Reads a data word. Refusals 1, 2, 13, 5, 14. The value is the word. */
+/* Reads a data word that was written. Refusals 1, 2, 13, 5, 14, 19. The value is the word. */
 SCOPES_RESULT SCOPES_NONNULL(1, 2)
 scopes_answer scopes_read(
     const uint64_t words[SCOPES_STATE_WORDS], const uint8_t bytes[SCOPES_STATE_BYTES],
     const uint64_t *permanent, size_t permanent_len,
     const uint64_t *scratch, size_t scratch_len,
     const uint64_t *map, size_t map_len,
+    const uint64_t *written, size_t written_len,
     uint64_t thread, uint64_t object, uint64_t index);
 
-/* ---- The shown part: an object's data words where they lie, without a copy */
+/* ---- The shown part: an object's data words where they lie, without a copy, whether anybody wrote them or not */
 
 /* Whether a thread may see an object's data. Refusals 1, 2, 13, 5. Value 0. */
 SCOPES_RESULT SCOPES_NONNULL(1, 2)
@@ -429,6 +455,7 @@ scopes_answer scopes_view_status(
     const uint64_t *permanent, size_t permanent_len,
     const uint64_t *scratch, size_t scratch_len,
     const uint64_t *map, size_t map_len,
+    const uint64_t *written, size_t written_len,
     uint64_t thread, uint64_t object);
 
 /* Where they lie, with the same status; a refusal gives store, from and len 0. The part is the object's until the next
@@ -439,6 +466,7 @@ scopes_view scopes_view_place(
     const uint64_t *permanent, size_t permanent_len,
     const uint64_t *scratch, size_t scratch_len,
     const uint64_t *map, size_t map_len,
+    const uint64_t *written, size_t written_len,
     uint64_t thread, uint64_t object);
 
 /* A view as a pointer into the stores of its call, and a length. */
@@ -483,7 +511,8 @@ scopes_answer scopes_stack_pop(scopes_stack *stack);
     (core)->words, (core)->bytes,             \
     (core)->permanent, (core)->permanent_len, \
     (core)->scratch, (core)->scratch_len,     \
-    (core)->map, (core)->map_len
+    (core)->map, (core)->map_len,             \
+    (core)->written, (core)->written_len
 
 /* Takes the buffers, which the handle keeps, and sets up its state in place. Refused by 1 as above; every call on buffers
  * that are not empty is refused by 1 then too. */
@@ -493,6 +522,7 @@ static inline uint64_t scopes_core_set_up(
     uint64_t *permanent, size_t permanent_len,
     uint64_t *scratch, size_t scratch_len,
     uint64_t *map, size_t map_len,
+    uint64_t *written, size_t written_len,
     uint64_t heap, uint64_t immortal)
 {
     core->permanent = permanent;
@@ -501,6 +531,8 @@ static inline uint64_t scopes_core_set_up(
     core->scratch_len = scratch_len;
     core->map = map;
     core->map_len = map_len;
+    core->written = written;
+    core->written_len = written_len;
     return scopes_set_up_in_place(SCOPES_PARTS(core), heap, immortal);
 }
 

@@ -18,6 +18,7 @@ enum { RUN = 2, SAMPLE = 3 };
 static uint64_t permanent[PERMANENT_WORDS];
 static uint64_t scratch[SCRATCH_WORDS];
 static uint64_t map[MAP_WORDS];
+static uint64_t written[MAP_WORDS];
 static scopes_core core;
 
 /* The first part of a call's line: what it is, its status and the status's name. */
@@ -42,7 +43,8 @@ static void title(const char *words)
 static void begin(void)
 {
     uint64_t status = scopes_core_set_up(
-        &core, permanent, PERMANENT_WORDS, scratch, SCRATCH_WORDS, map, MAP_WORDS, HEAP_WORDS, IMMORTAL_WORDS);
+        &core, permanent, PERMANENT_WORDS, scratch, SCRATCH_WORDS, map, MAP_WORDS, written, MAP_WORDS, HEAP_WORDS,
+        IMMORTAL_WORDS);
     printf("set-up gives status %" PRIu64 " %s\n", status, scopes_status_name(status));
     show("meter starts, real-time", scopes_core_start(&core, METER, SCOPES_REAL_TIME));
     show("helper starts, real-time", scopes_core_start(&core, HELPER, SCOPES_REAL_TIME));
@@ -94,6 +96,7 @@ static void reference_into_emptied_sample(void)
     show("meter writes 41 into points", scopes_core_write(&core, METER, points, 0, 41));
     show("meter writes 43 into points", scopes_core_write(&core, METER, points, 2, 43));
     show("plotter reads points", scopes_core_read(&core, PLOTTER, points, 0));
+    show("plotter reads the point that nobody measured", scopes_core_read(&core, PLOTTER, points, 1));
     show_view("plotter is shown points", scopes_core_view(&core, PLOTTER, points));
     show("plotter stores points in figure", scopes_core_store(&core, PLOTTER, figure, 0, points));
     show("meter leaves sample, the last one", scopes_core_exit(&core, METER));
@@ -105,6 +108,8 @@ static void reference_into_emptied_sample(void)
     show("meter allocates an object in the place of curve", scopes_core_allocate(&core, METER, 0, 1));
     uint64_t again = show("meter allocates points in their old place", scopes_core_allocate(&core, METER, 0, 3));
     show("plotter reads the old points", scopes_core_read(&core, PLOTTER, points, 0));
+    show("plotter reads the new points", scopes_core_read(&core, PLOTTER, again, 0));
+    show("meter writes 0 into the new points", scopes_core_write(&core, METER, again, 0, 0));
     show("plotter reads the new points", scopes_core_read(&core, PLOTTER, again, 0));
 }
 
@@ -135,8 +140,8 @@ static void beside_the_calls(void)
     show("scheduler pops", scopes_stack_pop(&stack));
     show("scheduler pops", scopes_stack_pop(&stack));
     show("meter starts, with a scratch store one word short",
-         scopes_start(core.words, core.bytes, permanent, PERMANENT_WORDS, scratch, SCRATCH_WORDS - 1, map, MAP_WORDS, METER,
-                      SCOPES_REAL_TIME));
+         scopes_start(core.words, core.bytes, permanent, PERMANENT_WORDS, scratch, SCRATCH_WORDS - 1, map, MAP_WORDS,
+                      written, MAP_WORDS, METER, SCOPES_REAL_TIME));
 }
 
 /* The table of this bench: ff0, fff, 0ff, where the built-in one has f30 in its first line. Ordinary threads have every

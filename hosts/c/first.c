@@ -7,7 +7,7 @@
 enum { HEAP = 64, IMMORTAL = 64, PERMANENT = HEAP + IMMORTAL, SCRATCH = 256, MAP = SCOPES_MAP_WORDS(PERMANENT, SCRATCH) };
 enum { METER = 0, SAMPLE = 2 }; /* thread 0, scope 2 */
 
-static uint64_t permanent[PERMANENT], scratch[SCRATCH], map[MAP];
+static uint64_t permanent[PERMANENT], scratch[SCRATCH], map[MAP], written[MAP];
 static scopes_core core;
 
 /* Tells a refused call. */
@@ -25,8 +25,10 @@ static int measure(void)
     if (refused("allocate", points.status) || refused("write", scopes_core_write(&core, METER, points.value, 0, 41).status))
         return 1;
     scopes_span span = scopes_core_view(&core, METER, points.value); /* the words where they lie, no copy */
-    for (size_t i = 0; i < span.len; i++)
-        printf("point %zu: %" PRIu64 "\n", i, span.words[i]);
+    for (size_t i = 0; i < span.len; i++) { /* they are 0 where nobody wrote; a read tells */
+        int measured = scopes_core_read(&core, METER, points.value, i).status != SCOPES_UNWRITTEN;
+        printf("point %zu: %" PRIu64 "%s\n", i, span.words[i], measured ? "" : ", not measured");
+    }
     return refused("view", span.status);
 }
 
@@ -36,7 +38,9 @@ int main(void)
         fprintf(stderr, "scopes.h and libscopes.a are of different versions\n");
         return 1;
     }
-    return refused("set-up", scopes_core_set_up(&core, permanent, PERMANENT, scratch, SCRATCH, map, MAP, HEAP, IMMORTAL))
+    uint64_t status =
+        scopes_core_set_up(&core, permanent, PERMANENT, scratch, SCRATCH, map, MAP, written, MAP, HEAP, IMMORTAL);
+    return refused("set-up", status)
         || refused("start", scopes_core_start(&core, METER, SCOPES_REAL_TIME).status)
         || refused("make", scopes_core_make(&core, METER, SAMPLE, 32).status)
         || refused("enter", scopes_core_enter(&core, METER, SAMPLE).status)

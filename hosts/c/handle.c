@@ -10,8 +10,13 @@ enum { THREAD = 0, SCOPE = 2 };
 /* The digits of the built-in rights table. */
 static const uint8_t digits[] = "111100110000" "111111111111" "000011111111";
 
-static uint64_t permanent[PERMANENT], scratch[SCRATCH], map[MAP];
+static uint64_t permanent[PERMANENT], scratch[SCRATCH], map[MAP], written[MAP];
 static scopes_core core;
+
+static uint64_t set_up(uint64_t heap, size_t written_len)
+{
+    return scopes_core_set_up(&core, permanent, PERMANENT, scratch, SCRATCH, map, MAP, written, written_len, heap, IMMORTAL);
+}
 
 static int is_answer(scopes_answer answer, uint64_t value)
 {
@@ -40,7 +45,7 @@ static void check_view(uint64_t object, const uint64_t *words, size_t len)
 static void every_call(void)
 {
     uint64_t outer, inner;
-    CHECK_STATUS(scopes_core_set_up(&core, permanent, PERMANENT, scratch, SCRATCH, map, MAP, HEAP, IMMORTAL), SCOPES_OK);
+    CHECK_STATUS(set_up(HEAP, MAP), SCOPES_OK);
     scopes_answer loaded = scopes_core_load_rights(&core, digits, SCOPES_RIGHTS_DIGITS);
     CHECK(is_answer(loaded, 0));
     CHECK(is_answer(scopes_core_start(&core, THREAD, SCOPES_REAL_TIME), 0));
@@ -60,12 +65,42 @@ static void every_call(void)
     CHECK(is_answer(scopes_core_end(&core, THREAD), 0));
 }
 
-/* Both set-ups give the same state, also where they are refused. */
-static void check_same_set_up(uint64_t heap, uint64_t expected)
+/* An object with a slot and two data words, which nobody has written: a read tells, the view shows 0. */
+static uint64_t check_unwritten(void)
 {
-    scopes_new_state by_value = scopes_set_up(permanent, PERMANENT, scratch, SCRATCH, map, MAP, heap, IMMORTAL);
+    uint64_t object = scopes_core_allocate(&core, THREAD, 1, 2).value;
+    scopes_span span = scopes_core_view(&core, THREAD, object);
+    CHECK_ANSWER(scopes_core_read(&core, THREAD, object, 0), SCOPES_UNWRITTEN);
+    CHECK_ANSWER(scopes_core_read(&core, THREAD, object, 1), SCOPES_UNWRITTEN);
+    CHECK_ANSWER(scopes_core_read(&core, THREAD, object, 2), SCOPES_INDEX);
+    CHECK(span.len == 2 && span.words[0] == 0 && span.words[1] == 0);
+    return object;
+}
+
+/* 0 is a writing, of one word alone; the next object in that place is unwritten again. */
+static void unwritten_words(void)
+{
+    uint64_t object;
+    CHECK_STATUS(set_up(HEAP, MAP), SCOPES_OK);
+    CHECK(is_answer(scopes_core_start(&core, THREAD, SCOPES_REAL_TIME), 0));
+    CHECK(is_answer(scopes_core_make(&core, THREAD, SCOPE, 16), 0));
+    CHECK(is_answer(scopes_core_enter(&core, THREAD, SCOPE), 1));
+    object = check_unwritten();
+    CHECK(is_answer(scopes_core_write(&core, THREAD, object, 1, 0), 0));
+    CHECK(is_answer(scopes_core_read(&core, THREAD, object, 1), 0));
+    CHECK_ANSWER(scopes_core_read(&core, THREAD, object, 0), SCOPES_UNWRITTEN);
+    CHECK(is_answer(scopes_core_exit(&core, THREAD), 0));
+    CHECK(is_answer(scopes_core_enter(&core, THREAD, SCOPE), 2));
+    check_unwritten();
+}
+
+/* Both set-ups give the same state, also where they are refused. */
+static void check_same_set_up(uint64_t heap, size_t written_len, uint64_t expected)
+{
+    scopes_new_state by_value =
+        scopes_set_up(permanent, PERMANENT, scratch, SCRATCH, map, MAP, written, written_len, heap, IMMORTAL);
     CHECK_STATUS(by_value.status, expected);
-    CHECK_STATUS(scopes_core_set_up(&core, permanent, PERMANENT, scratch, SCRATCH, map, MAP, heap, IMMORTAL), expected);
+    CHECK_STATUS(set_up(heap, written_len), expected);
     CHECK(memcmp(core.words, by_value.words, sizeof core.words) == 0);
     CHECK(memcmp(core.bytes, by_value.bytes, sizeof core.bytes) == 0);
 }
@@ -73,7 +108,7 @@ static void check_same_set_up(uint64_t heap, uint64_t expected)
 /* Each buffer, and a text, of length 0 as a null pointer. */
 static void null_buffers(void)
 {
-    CHECK_STATUS(scopes_core_set_up(&core, NULL, 0, NULL, 0, NULL, 0, 0, 0), SCOPES_OK);
+    CHECK_STATUS(scopes_core_set_up(&core, NULL, 0, NULL, 0, NULL, 0, NULL, 0, 0, 0), SCOPES_OK);
     CHECK_ANSWER(scopes_core_load_rights(&core, NULL, 0), SCOPES_TABLE);
     CHECK(is_answer(scopes_core_load_rights(&core, digits, SCOPES_RIGHTS_DIGITS), 0));
     CHECK(is_answer(scopes_core_start(&core, THREAD, SCOPES_REAL_TIME), 0));
@@ -87,21 +122,22 @@ static void null_buffers(void)
     check_refused_view((uint64_t)1 << 20);
     CHECK(is_answer(scopes_core_exit(&core, THREAD), 0));
     CHECK(is_answer(scopes_core_end(&core, THREAD), 0));
-    CHECK_STATUS(scopes_core_set_up(&core, NULL, 0, NULL, 0, NULL, 0, 1, 0), SCOPES_LENGTHS);
+    CHECK_STATUS(scopes_core_set_up(&core, NULL, 0, NULL, 0, NULL, 0, NULL, 0, 1, 0), SCOPES_LENGTHS);
 }
 
 /* Scopes alone, or heap and immortal memory alone: the other store has length 0. */
 static void null_store(void)
 {
     uint64_t object;
-    CHECK_STATUS(scopes_core_set_up(&core, NULL, 0, scratch, SCRATCH, map, 1, 0, 0), SCOPES_OK);
+    CHECK_STATUS(scopes_core_set_up(&core, NULL, 0, scratch, SCRATCH, map, 1, written, 1, 0, 0), SCOPES_OK);
     CHECK(is_answer(scopes_core_start(&core, THREAD, SCOPES_REAL_TIME), 0));
     CHECK(is_answer(scopes_core_make(&core, THREAD, SCOPE, SCRATCH), 0));
     CHECK_ANSWER(scopes_core_allocate(&core, THREAD, 0, 0), SCOPES_ROOM);
     CHECK(is_answer(scopes_core_enter(&core, THREAD, SCOPE), 1));
     object = scopes_core_allocate(&core, THREAD, 0, SCRATCH - 1).value;
     check_view(object, scratch + 1, SCRATCH - 1);
-    CHECK_STATUS(scopes_core_set_up(&core, permanent, PERMANENT, NULL, 0, map, 1, HEAP, IMMORTAL), SCOPES_OK);
+    CHECK_STATUS(
+        scopes_core_set_up(&core, permanent, PERMANENT, NULL, 0, map, 1, written, 1, HEAP, IMMORTAL), SCOPES_OK);
     CHECK(is_answer(scopes_core_start(&core, THREAD, SCOPES_ORDINARY), 0));
     object = scopes_core_allocate(&core, THREAD, 1, HEAP - 2).value;
     CHECK(is_answer(scopes_core_store(&core, THREAD, object, 0, object), 0));
@@ -129,8 +165,10 @@ static void names(void)
 int main(void)
 {
     every_call();
-    check_same_set_up(HEAP, SCOPES_OK);
-    check_same_set_up(HEAP + 1, SCOPES_LENGTHS);
+    unwritten_words();
+    check_same_set_up(HEAP, MAP, SCOPES_OK);
+    check_same_set_up(HEAP + 1, MAP, SCOPES_LENGTHS);
+    check_same_set_up(HEAP, MAP - 1, SCOPES_LENGTHS);
     null_buffers();
     null_store();
     stack_record();

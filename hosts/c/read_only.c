@@ -18,6 +18,7 @@ typedef struct memory {
     uint64_t permanent[PERMANENT];
     uint64_t scratch[SCRATCH];
     uint64_t map[MAP];
+    uint64_t written[MAP];
     uint8_t text[SCOPES_RIGHTS_DIGITS + 1];
 } memory;
 
@@ -91,9 +92,17 @@ static void fill_slots(void)
     lent->scratch[view.from - 2] = dead;
 }
 
+/* The data words of the inner and the immortal object are written, those of the others are not. */
+static void write_data(void)
+{
+    CHECK_ANSWER(scopes_core_write(core, NESTED, in_inner, 0, 7), SCOPES_OK);
+    CHECK_ANSWER(scopes_core_write(core, REAL_TIME, in_immortal, 0, 7), SCOPES_OK);
+}
+
 static uint64_t set_up(scopes_core *into, uint64_t heap)
 {
-    return scopes_core_set_up(into, lent->permanent, PERMANENT, lent->scratch, SCRATCH, lent->map, MAP, heap, IMMORTAL);
+    return scopes_core_set_up(
+        into, lent->permanent, PERMANENT, lent->scratch, SCRATCH, lent->map, MAP, lent->written, MAP, heap, IMMORTAL);
 }
 
 static void begin(void)
@@ -102,6 +111,7 @@ static void begin(void)
     start_threads();
     make_objects();
     fill_slots();
+    write_data();
 }
 
 static void refused_threads(void)
@@ -160,6 +170,8 @@ static void refused_data(void)
     CHECK_ANSWER(scopes_core_read(core, NESTED, dead, 0), SCOPES_OBJECT);
     CHECK_ANSWER(scopes_core_read(core, NO_HEAP, in_heap, 0), SCOPES_RIGHT);
     CHECK_ANSWER(scopes_core_read(core, NESTED, in_inner, 1), SCOPES_INDEX);
+    CHECK_ANSWER(scopes_core_read(core, NESTED, in_outer, 0), SCOPES_UNWRITTEN);
+    CHECK_ANSWER(scopes_core_read(core, ORDINARY, in_heap, 0), SCOPES_UNWRITTEN);
     CHECK_ANSWER(scopes_core_view_status(core, IDLE, in_inner), SCOPES_THREAD);
     CHECK_ANSWER(scopes_core_view_status(core, NESTED, dead), SCOPES_OBJECT);
     CHECK_ANSWER(scopes_core_view_status(core, ORDINARY, in_inner), SCOPES_RIGHT);
@@ -190,6 +202,18 @@ static void refused_lengths(void)
     CHECK_ANSWER(scopes_core_read(core, NESTED, in_inner, 0), SCOPES_LENGTHS);
     CHECK_ANSWER(scopes_core_view_status(core, NESTED, in_inner), SCOPES_LENGTHS);
     CHECK_ANSWER(scopes_core_view(core, NESTED, in_inner), SCOPES_LENGTHS);
+}
+
+/* The same where a buffer is one word short. */
+static void refused_word_short(size_t *len)
+{
+    protect(PROT_READ | PROT_WRITE);
+    --*len;
+    protect(PROT_READ);
+    refused_lengths();
+    protect(PROT_READ | PROT_WRITE);
+    ++*len;
+    protect(PROT_READ);
 }
 
 /* Calls whose pointers are all const, accepted. */
@@ -227,9 +251,9 @@ int main(void)
     refused_loads();
     accepted_looks();
     set_ups_elsewhere();
-    protect(PROT_READ | PROT_WRITE);
-    core->scratch_len--;
-    protect(PROT_READ);
-    refused_lengths();
+    refused_word_short(&core->permanent_len);
+    refused_word_short(&core->scratch_len);
+    refused_word_short(&core->map_len);
+    refused_word_short(&core->written_len);
     return failures != 0;
 }

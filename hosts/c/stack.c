@@ -10,7 +10,7 @@
 enum { PERMANENT = 64, SCRATCH = 256, MAP = SCOPES_MAP_WORDS(PERMANENT, SCRATCH) };
 enum { STACK_BYTES = 65536, PAINT = 0xa5 };
 
-static uint64_t permanent[PERMANENT], scratch[SCRATCH], map[MAP];
+static uint64_t permanent[PERMANENT], scratch[SCRATCH], map[MAP], written[MAP];
 static scopes_core core;
 static scopes_stack record;
 
@@ -27,7 +27,7 @@ static void nothing(void) { status = SCOPES_OK; }
 static void version(void) { status = scopes_version() - SCOPES_VERSION; }
 static void set_up_in_place(void)
 {
-    status = scopes_core_set_up(&core, permanent, PERMANENT, scratch, SCRATCH, map, MAP, 32, 32);
+    status = scopes_core_set_up(&core, permanent, PERMANENT, scratch, SCRATCH, map, MAP, written, MAP, 32, 32);
 }
 static void start(void) { status = scopes_core_start(&core, 0, SCOPES_REAL_TIME).status; }
 static void make(void) { status = scopes_core_make(&core, 0, 2, 128).status; }

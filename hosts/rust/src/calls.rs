@@ -7,21 +7,23 @@ use crate::names::{slot_word, Area, Handle, Kind, Thread};
 use crate::record::{self, Core, Memory};
 use crate::refusal::{check, value, Refusal};
 
-/// How many words the start map of stores of these lengths has.
+/// How many words each map, the start map and the written map, has for stores of these lengths.
 pub const fn map_words(permanent: usize, scratch: usize) -> usize {
     (permanent + scratch).div_ceil(64)
 }
 
 impl<'m> Core<'m> {
     /// A first state over a permanent store (heap, then immortal memory, of these sizes in words), a
-    /// scratch store and a start map, with the built-in rights table (see [`Kind`]). The words may
-    /// hold anything; none is written. Refused by [`Refusal::Lengths`] unless heap + immortal is the
-    /// permanent store's length, no store is longer than 16,384 words, and the map has [`map_words`]
-    /// words.
+    /// scratch store, a start map and a written map, with the built-in rights table (see [`Kind`]). A
+    /// map has a bit for each word of the stores: that an object begins there, or that the data word
+    /// was written since its object was made. The words may hold anything, and stay as they are.
+    /// Refused by [`Refusal::Lengths`] unless heap + immortal is the permanent store's length, no
+    /// store is longer than 16,384 words, and each map has [`map_words`] words.
     pub fn set_up(
         permanent: &'m mut [u64],
         scratch: &'m mut [u64],
         map: &'m mut [u64],
+        written: &'m mut [u64],
         heap: u64,
         immortal: u64,
     ) -> Result<Core<'m>, Refusal> {
@@ -29,19 +31,21 @@ impl<'m> Core<'m> {
             permanent,
             scratch,
             map,
+            written,
         };
         let (status, core) = record::set_up(memory, heap, immortal);
         check(status).map(|()| core)
     }
 
-    /// The same in a place of the host's own, where the core stays: its 7.5 KB do not cross the stack.
+    /// The same in a place of the host's own, where the core stays: its 7.6 KB do not cross the stack.
     ///
     /// ```
     /// # use core::mem::MaybeUninit;
     /// # use scopes::{map_words, Core, Kind, Thread};
-    /// # let (mut permanent, mut scratch, mut map) = ([0; 8], [0; 8], [0; map_words(8, 8)]);
+    /// # let (permanent, scratch) = (&mut [0; 8], &mut [0; 8]);
+    /// # let (map, written) = (&mut [0; map_words(8, 8)], &mut [0; map_words(8, 8)]);
     /// let mut place = MaybeUninit::uninit();
-    /// let core = Core::set_up_in(&mut place, &mut permanent, &mut scratch, &mut map, 4, 4)?;
+    /// let core = Core::set_up_in(&mut place, permanent, scratch, map, written, 4, 4)?;
     /// core.start(Thread::new(0), Kind::RealTime)?;
     /// # Ok::<(), scopes::Refusal>(())
     /// ```
@@ -50,6 +54,7 @@ impl<'m> Core<'m> {
         permanent: &'m mut [u64],
         scratch: &'m mut [u64],
         map: &'m mut [u64],
+        written: &'m mut [u64],
         heap: u64,
         immortal: u64,
     ) -> Result<&'p mut Core<'m>, Refusal> {
@@ -57,6 +62,7 @@ impl<'m> Core<'m> {
             permanent,
             scratch,
             map,
+            written,
         };
         let (status, core) = record::set_up_in(place, memory, heap, immortal);
         check(status).map(|()| core)
@@ -69,8 +75,9 @@ impl<'m> Core<'m> {
     ///
     /// ```
     /// # use scopes::{map_words, Area, Core, Kind, Refusal, Thread};
-    /// # let (mut permanent, mut scratch, mut map) = ([0; 8], [0; 0], [0; map_words(8, 0)]);
-    /// # let mut core = Core::set_up(&mut permanent, &mut scratch, &mut map, 4, 4)?;
+    /// # let (mut permanent, mut scratch) = ([0; 8], [0; 0]);
+    /// # let (mut map, mut written) = ([0; map_words(8, 0)], [0; map_words(8, 0)]);
+    /// # let mut core = Core::set_up(&mut permanent, &mut scratch, &mut map, &mut written, 4, 4)?;
     /// // Ordinary threads get all rights in immortal memory; else as in the built-in table.
     /// core.load_rights(b"111111110000111111111111000011111111")?;
     /// let clerk = Thread::new(0);
@@ -113,7 +120,8 @@ impl<'m> Core<'m> {
         value(record::exit(self, thread.number()))
     }
 
-    /// Allocates an object in the current area, slots null and data words 0. Refusals 2, 5, 12.
+    /// Allocates an object in the current area, slots null, data words 0 and unwritten. Refusals 2, 5,
+    /// 12.
     pub fn allocate(
         &mut self,
         thread: Thread,
@@ -154,7 +162,7 @@ impl<'m> Core<'m> {
         value(answer).map(Handle::from_word)
     }
 
-    /// Writes a data word. Refusals 2, 13, 5, 14.
+    /// Writes a data word; writing 0 is a writing too. Refusals 2, 13, 5, 14.
     pub fn write(
         &mut self,
         thread: Thread,
@@ -166,14 +174,14 @@ impl<'m> Core<'m> {
         value(answer).map(|_| ())
     }
 
-    /// Reads a data word. Refusals 2, 13, 5, 14.
+    /// Reads a data word that was written. Refusals 2, 13, 5, 14, 19.
     pub fn read(&self, thread: Thread, object: Handle, index: u64) -> Result<u64, Refusal> {
         let answer = record::read(self, thread.number(), object.word(), index);
         value(answer)
     }
 
-    /// An object's data words where they lie. No call that changes anything can be made while they
-    /// are held. Refusals 2, 13, 5.
+    /// An object's data words where they lie, whether anybody wrote them or not. No call that changes
+    /// anything can be made while they are held. Refusals 2, 13, 5.
     pub fn view(&self, thread: Thread, object: Handle) -> Result<&[u64], Refusal> {
         let place = record::view_place(self, thread.number(), object.word());
         check(place.status)?;
@@ -204,6 +212,11 @@ impl<'m> Core<'m> {
     pub fn map(&self) -> &[u64] {
         record::map(self)
     }
+
+    /// The words of the written map, to look at.
+    pub fn written(&self) -> &[u64] {
+        record::written(self)
+    }
 }
 
 /// The buffers' lengths alone: the tables are nobody's to read.
@@ -213,6 +226,7 @@ impl fmt::Debug for Core<'_> {
             .field("permanent", &self.permanent().len())
             .field("scratch", &self.scratch().len())
             .field("map", &self.map().len())
+            .field("written", &self.written().len())
             .finish_non_exhaustive()
     }
 }

@@ -3,15 +3,15 @@
 //! The functions below this crate are proved: `include/scopes.h` says what of them, and what their
 //! caller owes. This crate keeps what the caller owes by its types. A [`Core`] is made by
 //! [`Core::set_up`] or [`Core::set_up_in`] alone and is never copied, so its state is one that set-up
-//! and calls left; it borrows the three buffers for as long as it lives, so nothing else writes them
+//! and calls left; it borrows the four buffers for as long as it lives, so nothing else writes them
 //! between calls. It needs neither the standard library nor an allocator. [`sys`] is the raw layer.
 //!
 //! ```
-//! use scopes::{map_words, Area, Core, Kind, Thread};
+//! use scopes::{map_words, Area, Core, Kind, Refusal, Thread};
 //!
 //! let (mut permanent, mut scratch) = ([0; 64], [0; 64]);
-//! let mut map = [0; map_words(64, 64)];
-//! let mut core = Core::set_up(&mut permanent, &mut scratch, &mut map, 32, 32)?;
+//! let (mut map, mut written) = ([0; map_words(64, 64)], [0; map_words(64, 64)]);
+//! let mut core = Core::set_up(&mut permanent, &mut scratch, &mut map, &mut written, 32, 32)?;
 //!
 //! let (meter, sample) = (Thread::new(0), Area::new(2));
 //! core.start(meter, Kind::RealTime)?;
@@ -20,9 +20,10 @@
 //! let points = core.allocate(meter, 0, 3)?;
 //! core.write(meter, points, 0, 41)?;
 //! assert_eq!(core.view(meter, points)?, [41, 0, 0]);
+//! assert_eq!(core.read(meter, points, 1), Err(Refusal::Unwritten)); // 0, but nobody wrote it
 //! core.exit(meter)?;
 //! assert!(core.view(meter, points).is_err());
-//! # Ok::<(), scopes::Refusal>(())
+//! # Ok::<(), Refusal>(())
 //! ```
 //!
 //! # What does not compile
@@ -68,14 +69,16 @@
 //! Nobody else writes its buffers:
 //!
 //! ```
-//! let (mut permanent, mut scratch, mut map) = ([0; 1], [0; 1], [0; 1]);
-//! let core = scopes::Core::set_up(&mut permanent, &mut scratch, &mut map, 1, 0).unwrap();
+//! use scopes::Core;
+//! let (mut permanent, mut scratch, mut map, mut written) = ([0; 1], [0; 1], [0; 1], [0; 1]);
+//! let core = Core::set_up(&mut permanent, &mut scratch, &mut map, &mut written, 1, 0).unwrap();
 //! assert_eq!(core.permanent(), [0]);
 //! assert_eq!(core.scratch(), [0]);
 //! ```
 //! ```compile_fail,E0506
-//! let (mut permanent, mut scratch, mut map) = ([0; 1], [0; 1], [0; 1]);
-//! let core = scopes::Core::set_up(&mut permanent, &mut scratch, &mut map, 1, 0).unwrap();
+//! use scopes::Core;
+//! let (mut permanent, mut scratch, mut map, mut written) = ([0; 1], [0; 1], [0; 1], [0; 1]);
+//! let core = Core::set_up(&mut permanent, &mut scratch, &mut map, &mut written, 1, 0).unwrap();
 //! permanent[0] = 1;
 //! assert_eq!(core.scratch(), [0]);
 //! ```

@@ -11,7 +11,7 @@ use core::slice;
 
 use crate::sys::*;
 
-/// A state and its three buffers, borrowed for as long as it lives. It cannot be copied. Calls that
+/// A state and its four buffers, borrowed for as long as it lives. It cannot be copied. Calls that
 /// only look take `&self`, so threads may share it for these; the others take `&mut self`. It lies at
 /// a multiple of 64 bytes, laid out as `scopes_core` of the C header.
 #[repr(transparent)]
@@ -29,11 +29,12 @@ unsafe impl Send for Core<'_> {}
 // `&mut Core`.
 unsafe impl Sync for Core<'_> {}
 
-/// The three buffers, borrowed from the host.
+/// The four buffers, borrowed from the host.
 pub struct Memory<'m> {
     pub permanent: &'m mut [u64],
     pub scratch: &'m mut [u64],
     pub map: &'m mut [u64],
+    pub written: &'m mut [u64],
 }
 
 /// Calls an exported function on tables, a record's buffers (as const pointers, where that is said)
@@ -49,6 +50,8 @@ macro_rules! call {
             $record.scratch_len,
             $record.map$(.$const())?,
             $record.map_len,
+            $record.written$(.$const())?,
+            $record.written_len,
             $($number),*
         )
     };
@@ -117,6 +120,8 @@ pub fn set_up_in<'p, 'm>(
         (&raw mut (*record).scratch_len).write(memory.scratch.len());
         (&raw mut (*record).map).write(memory.map.as_mut_ptr());
         (&raw mut (*record).map_len).write(memory.map.len());
+        (&raw mut (*record).written).write(memory.written.as_mut_ptr());
+        (&raw mut (*record).written_len).write(memory.written.len());
         let words = (&raw mut (*record).words).cast();
         let bytes = (&raw mut (*record).bytes).cast();
         let status = call!(scopes_set_up_in_place(words, bytes, (*record); heap, immortal));
@@ -155,6 +160,7 @@ slices! {
     permanent permanent_len
     scratch scratch_len
     map map_len
+    written written_len
 }
 
 pub fn stack_empty() -> ScopeStack {
@@ -176,31 +182,48 @@ pub fn stack_pop(stack: &mut ScopeStack) -> Answer {
 mod tests {
     use super::*;
 
-    /// Another length is refused by 1 in every call, also where the buffer is one word short.
+    /// Every call is refused by 1.
+    fn refuses_by_1(core: &mut Core) {
+        assert_eq!(start(core, 1, 2).status, 1);
+        assert_eq!(end(core, 0).status, 1);
+        assert_eq!(make(core, 0, 2, 8).status, 1);
+        assert_eq!(enter(core, 0, 0).status, 1);
+        assert_eq!(exit(core, 0).status, 1);
+        assert_eq!(allocate(core, 0, 0, 1).status, 1);
+        assert_eq!(store(core, 0, 1, 0, 0).status, 1);
+        assert_eq!(load(core, 0, 1, 0).status, 1);
+        assert_eq!(write(core, 0, 1, 0, 0).status, 1);
+        assert_eq!(read(core, 0, 1, 0).status, 1);
+        assert_eq!(view_status(core, 0, 1).status, 1);
+        assert_eq!(view_place(core, 0, 1).status, 1);
+    }
+
+    /// Another length is refused by 1 in every call, whichever buffer is one word short.
     #[test]
     fn refuses_other_lengths() {
-        let (mut permanent, mut scratch, mut map) = ([0; 64], [0; 64], [0; 2]);
+        let (mut permanent, mut scratch) = ([0; 64], [0; 64]);
+        let (mut map, mut written) = ([0; 2], [0; 2]);
         let memory = Memory {
             permanent: &mut permanent,
             scratch: &mut scratch,
             map: &mut map,
+            written: &mut written,
         };
         let (status, mut core) = set_up(memory, 64, 0);
         assert_eq!(status, 0);
         assert_eq!(start(&mut core, 0, 2).status, 0);
-        core.record.scratch_len -= 1;
-        assert_eq!(start(&mut core, 1, 2).status, 1);
-        assert_eq!(end(&mut core, 0).status, 1);
-        assert_eq!(make(&mut core, 0, 2, 8).status, 1);
-        assert_eq!(enter(&mut core, 0, 0).status, 1);
-        assert_eq!(exit(&mut core, 0).status, 1);
-        assert_eq!(allocate(&mut core, 0, 0, 1).status, 1);
-        assert_eq!(store(&mut core, 0, 1, 0, 0).status, 1);
-        assert_eq!(load(&core, 0, 1, 0).status, 1);
-        assert_eq!(write(&mut core, 0, 1, 0, 0).status, 1);
-        assert_eq!(read(&core, 0, 1, 0).status, 1);
-        assert_eq!(view_status(&core, 0, 1).status, 1);
-        assert_eq!(view_place(&core, 0, 1).status, 1);
+        let lengths: [fn(&mut crate::sys::Core) -> &mut usize; 4] = [
+            |record| &mut record.permanent_len,
+            |record| &mut record.scratch_len,
+            |record| &mut record.map_len,
+            |record| &mut record.written_len,
+        ];
+        for length in lengths {
+            *length(&mut core.record) -= 1;
+            refuses_by_1(&mut core);
+            *length(&mut core.record) += 1;
+        }
+        assert_eq!(end(&mut core, 0).status, 0);
     }
 
     /// The state of a refused set-up serves empty buffers, and a load, which is lent none.
@@ -211,6 +234,7 @@ mod tests {
             permanent: &mut permanent,
             scratch: &mut [],
             map: &mut [],
+            written: &mut [],
         };
         let (status, mut core) = set_up(memory, 4, 0);
         assert_eq!(status, 1);
@@ -227,11 +251,12 @@ mod tests {
 
     /// The status and the tables of a set-up in a place that is painted before.
     fn set_up_on(paint: u8, heap: u64) -> (u64, [u64; STATE_WORDS], [u8; STATE_BYTES]) {
-        let (mut permanent, mut map) = ([0; 4], [0; 1]);
+        let (mut permanent, mut map, mut written) = ([0; 4], [0; 1], [0; 1]);
         let memory = Memory {
             permanent: &mut permanent,
             scratch: &mut [],
             map: &mut map,
+            written: &mut written,
         };
         let mut place = MaybeUninit::<Core>::uninit();
         // SAFETY: the place is this function's own.

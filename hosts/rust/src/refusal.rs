@@ -77,6 +77,8 @@ refusals! {
     Assignment = 16,
     /// Scope not open, its generation the last one, 2^44 - 1.
     GenerationsOut = 17,
+    /// Read: nobody wrote this data word since the object was made.
+    Unwritten = 19,
     /// A rights table has not 36 digits, a digit other than 0 and 1, or A without U.
     Table = 23,
     /// A thread is started.
@@ -116,7 +118,7 @@ mod tests {
     /// A status of a later archive is told as it is.
     #[test]
     fn unknown_status() {
-        for status in [18, 19, 25, u64::MAX] {
+        for status in [18, 20, 25, u64::MAX] {
             let refused = value(Answer { status, value: 0 }).unwrap_err();
             assert_eq!(refused, Refusal::Unknown { status });
             assert_eq!(refused.number(), status);

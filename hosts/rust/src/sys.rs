@@ -59,15 +59,18 @@ pub struct Core {
     pub scratch_len: usize,
     pub map: *mut u64,
     pub map_len: usize,
+    pub written: *mut u64,
+    pub written_len: usize,
 }
 
-/// Declares functions over the state's words and bytes and the three buffers, each as `const` or
+/// Declares functions over the state's words and bytes and the four buffers, each as `const` or
 /// `mut`, then numbers.
 macro_rules! exported {
-    ($($name:ident($words:tt $bytes:tt, $stores:tt $map:tt, $($number:ident),*) -> $answer:ty;)*) => {
+    ($($name:ident($words:tt $bytes:tt, $stores:tt $map:tt $written:tt, $($number:ident),*) -> $answer:ty;)*) => {
         extern "C" {
             $(#[doc = concat!("As in `include/scopes.h`. The tables are `", stringify!($words), "` and `",
-                stringify!($bytes), "`, the stores `", stringify!($stores), "`, the map `", stringify!($map), "`.")]
+                stringify!($bytes), "`, the stores `", stringify!($stores), "`, the start map `", stringify!($map),
+                "`, the written map `", stringify!($written), "`.")]
             pub fn $name(
                 words: *$words u64,
                 bytes: *$bytes u8,
@@ -77,6 +80,8 @@ macro_rules! exported {
                 scratch_len: usize,
                 map: *$map u64,
                 map_len: usize,
+                written: *$written u64,
+                written_len: usize,
                 $($number: u64),*
             ) -> $answer;)*
         }
@@ -84,19 +89,19 @@ macro_rules! exported {
 }
 
 exported! {
-    scopes_set_up_in_place(mut mut, const const, heap, immortal) -> u64;
-    scopes_start(mut const, const const, thread, kind) -> Answer;
-    scopes_end(mut const, const const, thread) -> Answer;
-    scopes_make(mut const, const const, thread, area, size) -> Answer;
-    scopes_enter(mut mut, const const, thread, area) -> Answer;
-    scopes_exit(mut const, const const, thread) -> Answer;
-    scopes_allocate(mut const, mut mut, thread, slots, data_words) -> Answer;
-    scopes_store(const const, mut const, thread, object, slot, target) -> Answer;
-    scopes_load(const const, const const, thread, object, slot) -> Answer;
-    scopes_write(const const, mut const, thread, object, index, word) -> Answer;
-    scopes_read(const const, const const, thread, object, index) -> Answer;
-    scopes_view_status(const const, const const, thread, object) -> Answer;
-    scopes_view_place(const const, const const, thread, object) -> View;
+    scopes_set_up_in_place(mut mut, const const const, heap, immortal) -> u64;
+    scopes_start(mut const, const const const, thread, kind) -> Answer;
+    scopes_end(mut const, const const const, thread) -> Answer;
+    scopes_make(mut const, const const const, thread, area, size) -> Answer;
+    scopes_enter(mut mut, const const const, thread, area) -> Answer;
+    scopes_exit(mut const, const const const, thread) -> Answer;
+    scopes_allocate(mut const, mut mut mut, thread, slots, data_words) -> Answer;
+    scopes_store(const const, mut const const, thread, object, slot, target) -> Answer;
+    scopes_load(const const, const const const, thread, object, slot) -> Answer;
+    scopes_write(const const, mut const mut, thread, object, index, word) -> Answer;
+    scopes_read(const const, const const const, thread, object, index) -> Answer;
+    scopes_view_status(const const, const const const, thread, object) -> Answer;
+    scopes_view_place(const const, const const const, thread, object) -> View;
 }
 
 extern "C" {
@@ -110,6 +115,8 @@ extern "C" {
         scratch_len: usize,
         map: *const u64,
         map_len: usize,
+        written: *const u64,
+        written_len: usize,
         heap: u64,
         immortal: u64,
     ) -> NewState;

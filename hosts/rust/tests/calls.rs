@@ -5,7 +5,7 @@ mod common;
 use std::mem::MaybeUninit;
 
 use common::{area, handle, thread, Buffers, HEAP, IMMORTAL, PERMANENT, SCRATCH};
-use scopes::{map_words, Area, Core, Kind, ScopeStack};
+use scopes::{map_words, Area, Core, Kind, Refusal, ScopeStack};
 
 #[test]
 fn set_up_writes_no_word() {
@@ -13,7 +13,9 @@ fn set_up_writes_no_word() {
     let core = buffers.set_up();
     assert_eq!(core.permanent(), vec![u64::MAX; PERMANENT]);
     assert_eq!(core.scratch(), vec![u64::MAX; SCRATCH]);
-    assert_eq!(core.map(), vec![u64::MAX; map_words(PERMANENT, SCRATCH)]);
+    let ones = vec![u64::MAX; map_words(PERMANENT, SCRATCH)];
+    assert_eq!(core.map(), ones);
+    assert_eq!(core.written(), ones);
 }
 
 #[test]
@@ -70,6 +72,63 @@ fn references_and_data() {
     assert_eq!(core.read(thread(0), inner, 0), Ok(7));
 }
 
+/// Writing 0 is a writing: the word reads as 0 then.
+#[test]
+fn zero_is_a_writing() {
+    let mut buffers = Buffers::new();
+    let mut core = buffers.begin();
+    let object = core.allocate(thread(0), 1, 2).unwrap();
+    assert_eq!(core.read(thread(0), object, 1), Err(Refusal::Unwritten));
+    assert_eq!(core.write(thread(0), object, 1, 0), Ok(()));
+    assert_eq!(core.read(thread(0), object, 1), Ok(0));
+}
+
+/// A read gives the last word written.
+#[test]
+fn reads_give_the_last_writing() {
+    let mut buffers = Buffers::new();
+    let mut core = buffers.begin();
+    let object = core.allocate(thread(0), 0, 2).unwrap();
+    for word in [7, 0, u64::MAX] {
+        core.write(thread(0), object, 0, word).unwrap();
+        core.write(thread(1), object, 1, !word).unwrap();
+        assert_eq!(core.read(thread(1), object, 0), Ok(word));
+        assert_eq!(core.read(thread(0), object, 1), Ok(!word));
+    }
+}
+
+/// Allocation clears the bits of header, slots and data; a write sets that of its word; a store, an exit
+/// and an entry leave the written map alone.
+#[test]
+fn written_bits() {
+    let mut buffers = Buffers::new();
+    let mut core = buffers.begin();
+    core.enter(thread(0), area(2)).unwrap();
+    let object = core.allocate(thread(0), 1, 2).unwrap();
+    // Scope 2 begins with the first scratch word, behind the permanent store's 32.
+    assert_eq!(core.written(), [!(0b1111 << 32), u64::MAX]);
+    core.store(thread(0), object, 0, Some(object)).unwrap();
+    assert_eq!(core.written(), [!(0b1111 << 32), u64::MAX]);
+    core.write(thread(0), object, 1, 9).unwrap();
+    assert_eq!(core.written(), [!(0b0111 << 32), u64::MAX]);
+    core.exit(thread(0)).unwrap();
+    core.enter(thread(0), area(2)).unwrap();
+    assert_eq!(core.written(), [!(0b0111 << 32), u64::MAX]);
+}
+
+/// The view shows the words as they lie, also those that a read refuses.
+#[test]
+fn views_show_unwritten_words() {
+    let mut buffers = Buffers::new();
+    let mut core = buffers.begin();
+    let object = core.allocate(thread(0), 1, 3).unwrap();
+    core.write(thread(0), object, 1, 9).unwrap();
+    assert_eq!(core.read(thread(0), object, 0), Err(Refusal::Unwritten));
+    assert_eq!(core.read(thread(0), object, 2), Err(Refusal::Unwritten));
+    assert_eq!(core.view(thread(0), object), Ok(&[0, 9, 0][..]));
+    assert_eq!(core.view_status(thread(0), object), Ok(()));
+}
+
 /// A view is a part of the store itself.
 #[test]
 fn views_are_parts_of_the_stores() {
@@ -107,13 +166,15 @@ fn views_last_beside_other_looks() {
 /// The buffers are the host's again after the core's last use.
 #[test]
 fn buffers_come_back() {
-    let (mut permanent, mut scratch, mut map) = ([0; 8], [0; 8], [0; 1]);
-    let mut core = Core::set_up(&mut permanent, &mut scratch, &mut map, 8, 0).unwrap();
+    let (mut permanent, mut scratch, mut map, mut written) = ([0; 8], [0; 8], [0; 1], [0; 1]);
+    let core = Core::set_up(&mut permanent, &mut scratch, &mut map, &mut written, 8, 0);
+    let mut core = core.unwrap();
     core.start(thread(0), Kind::Ordinary).unwrap();
     let object = core.allocate(thread(0), 0, 1).unwrap();
     core.write(thread(0), object, 0, 77).unwrap();
     assert_eq!(permanent[..2], [1 << 14, 77]);
-    assert_eq!(map, [1]);
+    assert_eq!(map, [0b01]);
+    assert_eq!(written, [0b10]);
 }
 
 /// In a place of the host's own, of any contents.
@@ -124,9 +185,11 @@ fn set_up_in_place() {
         permanent,
         scratch,
         map,
+        written,
     } = &mut buffers;
     let mut place = MaybeUninit::uninit();
-    let core = Core::set_up_in(&mut place, permanent, scratch, map, HEAP, IMMORTAL).unwrap();
+    let core = Core::set_up_in(&mut place, permanent, scratch, map, written, HEAP, IMMORTAL);
+    let core = core.unwrap();
     assert_eq!((core as *const Core).align_offset(64), 0);
     core.start(thread(0), Kind::RealTime).unwrap();
     core.make(thread(0), area(2), 8).unwrap();
@@ -184,7 +247,10 @@ fn debugging_shows_no_table() {
     let mut buffers = Buffers::new();
     let core = buffers.begin();
     let text = format!("{core:?}");
-    assert_eq!(text, "Core { permanent: 32, scratch: 96, map: 2, .. }");
+    assert_eq!(
+        text,
+        "Core { permanent: 32, scratch: 96, map: 2, written: 2, .. }"
+    );
     let mut stack = ScopeStack::empty();
     stack.push(area(5)).unwrap();
     assert_eq!(format!("{stack:?}"), "[Area(5)]");

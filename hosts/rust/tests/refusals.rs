@@ -9,32 +9,48 @@ use std::mem::MaybeUninit;
 use common::{area, handle, thread, Buffers};
 use scopes::{Area, Core, Kind, Refusal, ScopeStack};
 
-fn set_up(permanent: usize, scratch: usize, map: usize, heap: u64, immortal: u64) -> Option<u64> {
-    let mut permanent = vec![0; permanent];
-    let mut scratch = vec![0; scratch];
-    let mut map = vec![0; map];
-    let core = Core::set_up(&mut permanent, &mut scratch, &mut map, heap, immortal);
+/// The refusal of a set-up over buffers of these lengths: the stores, the maps.
+fn set_up(stores: [usize; 2], maps: [usize; 2], heap: u64, immortal: u64) -> Option<u64> {
+    let [mut permanent, mut scratch] = stores.map(|len| vec![0; len]);
+    let [mut map, mut written] = maps.map(|len| vec![0; len]);
+    let core = Core::set_up(
+        &mut permanent,
+        &mut scratch,
+        &mut map,
+        &mut written,
+        heap,
+        immortal,
+    );
     core.err().map(Refusal::number)
 }
 
 #[test]
 fn refused_by_1_set_up() {
-    assert_eq!(set_up(32, 32, 1, 20, 12), None);
-    assert_eq!(set_up(0, 0, 0, 0, 0), None);
-    assert_eq!(set_up(16_384, 16_384, 512, 16_384, 0), None);
-    assert_eq!(set_up(32, 32, 1, 20, 11), Some(1));
-    assert_eq!(set_up(2, 0, 1, u64::MAX, 3), Some(1));
-    assert_eq!(set_up(16_385, 0, 257, 16_385, 0), Some(1));
-    assert_eq!(set_up(0, 16_385, 257, 0, 0), Some(1));
-    assert_eq!(set_up(32, 32, 0, 20, 12), Some(1));
-    assert_eq!(set_up(32, 32, 2, 20, 12), Some(1));
-    assert_eq!(set_up(32, 33, 1, 20, 12), Some(1));
+    assert_eq!(set_up([32, 32], [1, 1], 20, 12), None);
+    assert_eq!(set_up([0, 0], [0, 0], 0, 0), None);
+    assert_eq!(set_up([16_384, 16_384], [512, 512], 16_384, 0), None);
+    assert_eq!(set_up([32, 32], [1, 1], 20, 11), Some(1));
+    assert_eq!(set_up([2, 0], [1, 1], u64::MAX, 3), Some(1));
+    assert_eq!(set_up([16_385, 0], [257, 257], 16_385, 0), Some(1));
+    assert_eq!(set_up([0, 16_385], [257, 257], 0, 0), Some(1));
+    assert_eq!(set_up([32, 33], [1, 1], 20, 12), Some(1));
+}
+
+/// One map has another length than the stores ask for, or both have.
+#[test]
+fn refused_by_1_maps() {
+    for wrong in [0, 2] {
+        assert_eq!(set_up([32, 32], [wrong, 1], 20, 12), Some(1));
+        assert_eq!(set_up([32, 32], [1, wrong], 20, 12), Some(1));
+        assert_eq!(set_up([32, 32], [wrong, wrong], 20, 12), Some(1));
+    }
+    assert_eq!(set_up([0, 0], [0, 1], 0, 0), Some(1));
 }
 
 #[test]
 fn refused_by_1_set_up_in_place() {
     let mut place = MaybeUninit::uninit();
-    let core = Core::set_up_in(&mut place, &mut [], &mut [], &mut [], 0, 1);
+    let core = Core::set_up_in(&mut place, &mut [], &mut [], &mut [], &mut [], 0, 1);
     assert_eq!(core.err(), Some(Refusal::Lengths));
 }
 
@@ -216,35 +232,66 @@ fn refused_by_16_assignment() {
     assert_eq!(core.store(thread(0), inner, 0, Some(outer)), Ok(()));
 }
 
+/// A word that nobody wrote since its object was made, after 14.
+#[test]
+fn refused_by_19_unwritten() {
+    let mut buffers = Buffers::new();
+    let mut core = buffers.begin();
+    let object = core.allocate(thread(0), 1, 2).unwrap();
+    for index in [0, 1] {
+        let read = core.read(thread(0), object, index);
+        assert_eq!(read, Err(Refusal::Unwritten));
+    }
+    assert_eq!(core.read(thread(0), object, 2), Err(Refusal::Index));
+    assert_eq!(core.read(thread(2), object, 0), Err(Refusal::Right));
+    core.write(thread(0), object, 0, 7).unwrap();
+    assert_eq!(core.read(thread(0), object, 0), Ok(7));
+    assert_eq!(core.read(thread(0), object, 1), Err(Refusal::Unwritten));
+}
+
+/// An object in the place of one whose scope was emptied, with words that were written then.
+#[test]
+fn refused_by_19_in_an_old_place() {
+    let mut buffers = Buffers::new();
+    let mut core = buffers.begin();
+    core.enter(thread(0), area(2)).unwrap();
+    let old = core.allocate(thread(0), 0, 1).unwrap();
+    core.write(thread(0), old, 0, 7).unwrap();
+    core.exit(thread(0)).unwrap();
+    core.enter(thread(0), area(2)).unwrap();
+    let new = core.allocate(thread(0), 0, 1).unwrap();
+    assert_eq!(core.read(thread(0), old, 0), Err(Refusal::Object));
+    assert_eq!(core.read(thread(0), new, 0), Err(Refusal::Unwritten));
+    core.write(thread(0), new, 0, 8).unwrap();
+    assert_eq!(core.read(thread(0), new, 0), Ok(8));
+}
+
+/// All lent words.
+fn words(core: &Core) -> [Vec<u64>; 4] {
+    [core.permanent(), core.scratch(), core.map(), core.written()].map(<[u64]>::to_vec)
+}
+
 /// A refused call changes no word.
 #[test]
 fn refusals_change_nothing() {
     let mut buffers = Buffers::new();
     let mut core = buffers.begin();
     let object = core.allocate(thread(0), 1, 1).unwrap();
-    let kept = (
-        core.permanent().to_vec(),
-        core.scratch().to_vec(),
-        core.map().to_vec(),
-    );
+    let kept = words(&core);
     assert!(core.write(thread(0), object, 1, 9).is_err());
+    assert!(core.write(thread(2), object, 0, 9).is_err());
     assert!(core.store(thread(0), object, 0, Some(handle(1))).is_err());
     assert!(core.allocate(thread(0), 16, 16).is_err());
-    let now = (
-        core.permanent().to_vec(),
-        core.scratch().to_vec(),
-        core.map().to_vec(),
-    );
-    assert_eq!(now, kept);
+    assert_eq!(words(&core), kept);
 }
 
 #[test]
 fn numbers_of_refusals() {
-    for number in (1..=17).chain([23, 24]) {
+    for number in (1..=17).chain([19, 23, 24]) {
         let refusal = Refusal::from_number(number).unwrap();
         assert_eq!(refusal.number(), number);
     }
-    for number in [0, 18, 19, 20, 21, 22, 25, u64::MAX] {
+    for number in [0, 18, 20, 21, 22, 25, u64::MAX] {
         assert_eq!(Refusal::from_number(number), None);
     }
     let text = Refusal::Parent.to_string();

@@ -13,6 +13,7 @@ pub struct Buffers {
     pub permanent: Vec<u64>,
     pub scratch: Vec<u64>,
     pub map: Vec<u64>,
+    pub written: Vec<u64>,
 }
 
 impl Buffers {
@@ -21,6 +22,7 @@ impl Buffers {
             permanent: vec![u64::MAX; PERMANENT],
             scratch: vec![u64::MAX; SCRATCH],
             map: vec![u64::MAX; map_words(PERMANENT, SCRATCH)],
+            written: vec![u64::MAX; map_words(PERMANENT, SCRATCH)],
         }
     }
 
@@ -29,8 +31,9 @@ impl Buffers {
             permanent,
             scratch,
             map,
+            written,
         } = self;
-        Core::set_up(permanent, scratch, map, HEAP, IMMORTAL).expect("lengths that fit")
+        Core::set_up(permanent, scratch, map, written, HEAP, IMMORTAL).expect("lengths that fit")
     }
 
     /// Threads 0, 1 and 2 started, real-time, ordinary and no-heap; scopes 2 and 3 made, 8 words each.
