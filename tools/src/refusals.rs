@@ -44,6 +44,10 @@ const WORDS: &[(Refusal, &str)] = &[
     ),
     (Refusal::Frame, "the line is no frame"),
     (
+        Refusal::Unwritten,
+        "data word that nobody wrote since the object was made",
+    ),
+    (
         Refusal::Table,
         "not 36 digits, a digit other than 0 and 1, or A without U",
     ),

@@ -7,7 +7,7 @@ use reference::answer::Answer;
 use reference::calls::{Call, Op};
 use reference::layout::Handle;
 use tools::answers::pair;
-use tools::{explain, words};
+use tools::{explain, text, words};
 
 fn handle(area: u64, generation: u64, offset: u64) -> u64 {
     Handle {
@@ -142,6 +142,7 @@ fn every_refusal() {
         (16, "the assignment rule forbids the reference"),
         (17, "scope not open, its generation the last one"),
         (18, "the line is no frame"),
+        (19, "data word that nobody wrote since the object was made"),
         (
             23,
             "not 36 digits, a digit other than 0 and 1, or A without U",
@@ -162,6 +163,19 @@ fn every_refusal() {
             None => assert_eq!(words, format!("refused {status}")),
         }
     }
+}
+
+/// A word that nobody wrote is told from a 0 that somebody wrote.
+#[test]
+fn unwritten_and_zero() {
+    let calls = "t0 start 2\nt0 allocate 0 1\nt0 read 0.1:0 0\nt0 write 0.1:0 0 0\nt0 read 0.1:0 0";
+    let words = List::new(text::assemble(calls.as_bytes()).expect("calls")).words();
+    let answers: Vec<&str> = words
+        .lines()
+        .filter_map(|line| line.strip_prefix("t0 read 0.1:0 index 0 → "))
+        .collect();
+    let unwritten = "refused 19: data word that nobody wrote since the object was made";
+    assert_eq!(answers, [unwritten, "word 0"]);
 }
 
 const START: &str = "0100000000000000000200000000000000000000";

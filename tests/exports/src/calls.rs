@@ -52,7 +52,7 @@ impl Reply {
 /// Calls an exported function with a state's tables, the buffers and numbers.
 macro_rules! call {
     ($function:ident, $state:ident, $supplied:ident, $($number:expr),*) => {{
-        let [permanent, scratch, map] = $supplied.buffers();
+        let [permanent, scratch, map, written] = $supplied.buffers();
         // SAFETY: the tables have their sizes and, but for a set-up, hold a state of set-up and calls,
         // in which the generation of a scope that is not open may be any up to the last; the buffers
         // are slices with their own lengths, apart from each other.
@@ -66,6 +66,8 @@ macro_rules! call {
                 scratch.len(),
                 map.as_mut_ptr(),
                 map.len(),
+                written.as_mut_ptr(),
+                written.len(),
                 $($number),*
             )
         }
@@ -74,8 +76,8 @@ macro_rules! call {
 
 /// A set-up by value.
 pub fn set_up(supplied: &mut Supplied, heap: u64, immortal: u64) -> NewState {
-    let [permanent, scratch, map] = supplied.buffers();
-    // SAFETY: three slices with their own lengths, borrowed for writing, so that a write is seen.
+    let [permanent, scratch, map, written] = supplied.buffers();
+    // SAFETY: four slices with their own lengths, borrowed for writing, so that a write is seen.
     unsafe {
         scopes_set_up(
             permanent.as_mut_ptr(),
@@ -84,6 +86,8 @@ pub fn set_up(supplied: &mut Supplied, heap: u64, immortal: u64) -> NewState {
             scratch.len(),
             map.as_mut_ptr(),
             map.len(),
+            written.as_mut_ptr(),
+            written.len(),
             heap,
             immortal,
         )

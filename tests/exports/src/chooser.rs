@@ -4,7 +4,7 @@ use reference::calls::Op;
 use reference::layout::{Handle, NULL};
 use reference::memory::Memory;
 use reference::random::Random;
-use reference::state::{is_scope, State, AREAS, FIRST_SCOPE, LAST_GENERATION, THREADS};
+use reference::state::{is_scope, Object, State, AREAS, FIRST_SCOPE, LAST_GENERATION, THREADS};
 use reference::texts;
 
 use crate::calls::Request;
@@ -26,8 +26,12 @@ pub struct Seen<'a> {
 }
 
 impl Seen<'_> {
+    pub fn resolve(self, word: u64) -> Option<Object> {
+        self.state.resolve(self.memory, word)
+    }
+
     pub fn is_live(self, word: u64) -> bool {
-        self.state.is_live(self.memory, word)
+        self.resolve(word).is_some()
     }
 }
 
@@ -306,10 +310,13 @@ impl Chooser {
     }
 
     fn write(&mut self, seen: Seen) -> Op {
+        let (object, index) = (self.object(seen), self.index());
+        let zero = self.random.percent(15);
+        let word = if zero { 0 } else { self.any_word() };
         Op::Write {
-            object: self.object(seen),
-            index: self.index(),
-            word: self.any_word(),
+            object,
+            index,
+            word,
         }
     }
 
@@ -320,21 +327,24 @@ impl Chooser {
         }
     }
 
-    /// What the host writes into the buffers: any word somewhere, or an object among the used words.
+    /// What the host writes into the buffers: an object among the used words, a data word's written
+    /// bit, or any word somewhere.
     pub fn pokes(&mut self, seen: Seen) -> Vec<Poke> {
-        if self.random.percent(50) {
-            return self.forged(seen);
+        match self.random.below(10) {
+            0..=4 => self.forged(seen),
+            5 => Vec::from_iter(self.spoilt_bit(seen)),
+            _ => Vec::from_iter(self.poke(seen)),
         }
-        Vec::from_iter(self.poke(seen))
     }
 
     /// A header or a handle or any word, mostly near the start of a buffer.
     fn poke(&mut self, seen: Seen) -> Option<Poke> {
         let lengths = seen.memory.lengths();
-        let (buffer, length) = match self.random.below(3) {
+        let (buffer, length) = match self.random.below(4) {
             0 => (Buffer::Permanent, lengths.permanent),
             1 => (Buffer::Scratch, lengths.scratch),
-            _ => (Buffer::Map, lengths.start_map),
+            2 => (Buffer::Map, lengths.start_map),
+            _ => (Buffer::Written, lengths.written),
         };
         if length == 0 {
             return None;
@@ -373,6 +383,15 @@ impl Chooser {
         vec![header, (Buffer::Map, number / 64, bits)]
     }
 
+    /// The other bit for a data word of a live object in the written map.
+    fn spoilt_bit(&mut self, seen: Seen) -> Option<Poke> {
+        let object = seen.resolve(self.live(seen)?)?;
+        let data = object.header.data.checked_sub(1)?;
+        let number = object.first_data() + self.random.below(data + 1);
+        let bits = seen.memory.written[(number / 64) as usize] ^ 1 << (number % 64);
+        Some((Buffer::Written, number / 64, bits))
+    }
+
     /// A scope that is not open, and a generation that is the last one or near it.
     pub fn generation(&mut self, state: &State) -> Option<(u64, u64)> {
         let closed: Vec<u64> = (FIRST_SCOPE..AREAS)
@@ -385,10 +404,11 @@ impl Chooser {
     /// The buffers with one of another length: a word less or more, none, or many.
     pub fn other_lengths(&mut self, memory: &Memory) -> Memory {
         let mut other = memory.clone();
-        let buffer = match self.random.below(3) {
+        let buffer = match self.random.below(4) {
             0 => &mut other.permanent,
             1 => &mut other.scratch,
-            _ => &mut other.start_map,
+            2 => &mut other.start_map,
+            _ => &mut other.written,
         };
         let length = buffer.len();
         match self.random.below(4) {

@@ -11,6 +11,7 @@ use reference::texts::{self, Text};
 
 use crate::calls::{Reply, Request};
 use crate::chooser::{started, Chooser};
+use crate::exports::View;
 use crate::pair::{op, Pair};
 use crate::records;
 use crate::tally::Tally;
@@ -62,18 +63,24 @@ fn any_set_up(random: &mut Random) -> (u64, u64, Memory) {
         _ => 200,
     };
     let (heap, immortal) = (random.below(most + 1), random.below(most + 1));
-    let mut lengths = Lengths::with_map(heap + immortal, random.below(2 * most + 1));
+    let mut lengths = Lengths::with_maps(heap + immortal, random.below(2 * most + 1));
     let (mut h, mut i) = (heap, immortal);
     if random.percent(15) {
-        match random.below(9) {
+        match random.below(12) {
             0 => lengths.permanent += 1,
             1 => lengths.start_map += 1,
             2 => lengths.start_map = lengths.start_map.saturating_sub(1),
-            3 => lengths = Lengths::with_map(lengths.permanent, MOST_WORDS + 1),
-            4 => (h, i, lengths) = whole_store(random, MOST_WORDS + 1, lengths.scratch),
-            5 => (h, i, lengths) = whole_store(random, MOST_WORDS, MOST_WORDS),
-            6 => h = h.wrapping_sub(1 + random.below(3)),
-            7 => i = random.word(),
+            3 => lengths.written += 1,
+            4 => lengths.written = lengths.written.saturating_sub(1),
+            5 => {
+                lengths.start_map += 1;
+                lengths.written += 1;
+            }
+            6 => lengths = Lengths::with_maps(lengths.permanent, MOST_WORDS + 1),
+            7 => (h, i, lengths) = whole_store(random, MOST_WORDS + 1, lengths.scratch),
+            8 => (h, i, lengths) = whole_store(random, MOST_WORDS, MOST_WORDS),
+            9 => h = h.wrapping_sub(1 + random.below(3)),
+            10 => i = random.word(),
             _ => (h, i) = (u64::MAX, lengths.permanent + 1),
         }
     }
@@ -83,7 +90,7 @@ fn any_set_up(random: &mut Random) -> (u64, u64, Memory) {
 /// Heap and immortal memory that fill a permanent store, beside a scratch store.
 fn whole_store(random: &mut Random, permanent: u64, scratch: u64) -> (u64, u64, Lengths) {
     let heap = random.below(permanent + 1);
-    let lengths = Lengths::with_map(permanent, scratch);
+    let lengths = Lengths::with_maps(permanent, scratch);
     (heap, permanent - heap, lengths)
 }
 
@@ -93,14 +100,21 @@ fn note_edges(heap: u64, immortal: u64, lengths: Lengths, tally: &mut Tally) {
         permanent,
         scratch,
         start_map,
+        written,
     } = lengths;
     if heap.checked_add(immortal) != Some(permanent) {
         return;
     }
-    let fitting = Lengths::with_map(permanent, scratch).start_map;
-    tally.note(start_map + 1 == fitting, "a map one word short");
-    tally.note(start_map == fitting + 1, "a map one word long");
+    let fitting = Lengths::with_maps(permanent, scratch).start_map;
+    if written == fitting {
+        tally.note(start_map + 1 == fitting, "a start map one word short");
+        tally.note(start_map == fitting + 1, "a start map one word long");
+    }
     if start_map == fitting {
+        tally.note(written + 1 == fitting, "a written map one word short");
+        tally.note(written == fitting + 1, "a written map one word long");
+    }
+    if (start_map, written) == (fitting, fitting) {
         let most = (permanent, scratch) == (MOST_WORDS, MOST_WORDS);
         tally.note(most, "stores of 16,384 words");
         let long = permanent == MOST_WORDS + 1 && scratch <= MOST_WORDS;
@@ -113,7 +127,8 @@ fn note_edges(heap: u64, immortal: u64, lengths: Lengths, tally: &mut Tally) {
 fn any_contents(random: &mut Random, lengths: Lengths) -> Memory {
     let mut memory = Memory::zeroed(lengths);
     let stores = memory.permanent.iter_mut().chain(&mut memory.scratch);
-    for word in stores.chain(&mut memory.start_map) {
+    let maps = memory.start_map.iter_mut().chain(&mut memory.written);
+    for word in stores.chain(maps) {
         *word = random.word() >> random.below(64);
     }
     memory
@@ -132,14 +147,38 @@ impl List<'_> {
         self.host_writes();
         let request = self.chooser.request(self.pair.seen());
         if self.chooser.random.percent(4) {
-            let other = self.chooser.other_lengths(&self.pair.memory);
-            let reply = self.pair.call_on(&other, request)?;
-            self.tally.add_reply(request, reply);
-            let loaded = matches!(request, Request::LoadRights { .. }) && reply.status() == 0;
-            let situation = "a load beside buffers of other lengths";
-            self.tally.note(loaded, situation);
+            self.call_on_others(request)?;
         }
         self.call(request)
+    }
+
+    /// The call on buffers of other lengths, before it is made on those that are kept.
+    fn call_on_others(&mut self, request: Request) -> Result<(), String> {
+        let other = self.chooser.other_lengths(&self.pair.memory);
+        let reply = self.pair.call_on(&other, request)?;
+        self.tally.add_reply(request, reply);
+        let loaded = matches!(request, Request::LoadRights { .. }) && reply.status() == 0;
+        let (given, kept) = (other.written.len(), self.pair.memory.written.len());
+        let refused = reply.status() == 1;
+        let notes = [
+            (loaded, "a load beside buffers of other lengths"),
+            (
+                refused && given + 1 == kept,
+                "a call with a written map one word short",
+            ),
+            (
+                refused && given == kept + 1,
+                "a call with a written map one word long",
+            ),
+        ];
+        self.note_all(&notes);
+        Ok(())
+    }
+
+    fn note_all(&mut self, notes: &[(bool, &'static str)]) {
+        for &(happened, situation) in notes {
+            self.tally.note(happened, situation);
+        }
     }
 
     /// What no call does: words of the buffers, and generations.
@@ -176,8 +215,17 @@ impl List<'_> {
                 self.tally.note(status == 5 && real_time, situation);
             }
             (Request::LoadRights { text }, _) => self.look_at_load(text, status),
+            (_, Reply::View(view)) => self.look_at_view(view),
             _ => {}
         }
+    }
+
+    fn look_at_view(&mut self, view: View) {
+        let memory = &self.pair.memory;
+        let first = view.from + view.store * memory.lengths().permanent;
+        let unmarked = (first..first + view.len).any(|number| !memory.is_written(number));
+        let situation = "a view of words that are not marked as written";
+        self.tally.note(unmarked, situation);
     }
 
     fn look_at_accepted(&mut self, call: Call, value: u64) {
@@ -200,6 +248,10 @@ impl List<'_> {
                 let forged = !self.given.contains(&object);
                 let situation = "a handle that no allocation gave is accepted";
                 self.tally.note(forged, situation);
+            }
+            Op::Read { .. } => {
+                let situation = "a 0 that is marked as written is read";
+                self.tally.note(value == 0, situation);
             }
             _ => {}
         }
@@ -228,9 +280,7 @@ impl List<'_> {
                 "a load refused for thread 15 alone",
             ),
         ];
-        for (happened, situation) in notes {
-            self.tally.note(happened, situation);
-        }
+        self.note_all(&notes);
     }
 
     /// Shows what the calls left: every known object, and every stack, taken off entry by entry. A

@@ -127,6 +127,7 @@ impl Pair {
             Buffer::Permanent => (&mut self.supplied.permanent, &mut self.memory.permanent),
             Buffer::Scratch => (&mut self.supplied.scratch, &mut self.memory.scratch),
             Buffer::Map => (&mut self.supplied.map, &mut self.memory.start_map),
+            Buffer::Written => (&mut self.supplied.written, &mut self.memory.written),
         };
         given.words_mut()[place] = word;
         expected[place] = word;
@@ -159,6 +160,7 @@ pub enum Buffer {
     Permanent,
     Scratch,
     Map,
+    Written,
 }
 
 /// What the second implementation does.

@@ -33,12 +33,13 @@ impl Guarded {
     }
 }
 
-/// The three buffers.
+/// The four buffers.
 #[derive(Clone)]
 pub struct Supplied {
     pub permanent: Guarded,
     pub scratch: Guarded,
     pub map: Guarded,
+    pub written: Guarded,
 }
 
 impl Supplied {
@@ -47,17 +48,20 @@ impl Supplied {
             permanent: Guarded::new(&memory.permanent),
             scratch: Guarded::new(&memory.scratch),
             map: Guarded::new(&memory.start_map),
+            written: Guarded::new(&memory.written),
         }
     }
 
-    /// The permanent store, the scratch store and the start map, as a call takes them.
-    pub fn buffers(&mut self) -> [&mut [u64]; 3] {
+    /// The permanent store, the scratch store, the start map and the written map, as a call takes
+    /// them.
+    pub fn buffers(&mut self) -> [&mut [u64]; 4] {
         let Supplied {
             permanent,
             scratch,
             map,
+            written,
         } = self;
-        [permanent, scratch, map].map(Guarded::words_mut)
+        [permanent, scratch, map, written].map(Guarded::words_mut)
     }
 
     /// What differs from the second implementation's memory, if anything does.
@@ -66,6 +70,7 @@ impl Supplied {
             ("permanent store", &self.permanent, &memory.permanent),
             ("scratch store", &self.scratch, &memory.scratch),
             ("start map", &self.map, &memory.start_map),
+            ("written map", &self.written, &memory.written),
         ];
         pairs.iter().find_map(|(name, given, expected)| {
             if !given.intact() {

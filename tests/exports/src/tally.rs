@@ -18,7 +18,7 @@ const REACHABLE: [(&str, &[u64]); 16] = [
     ("store", &[0, 1, 2, 5, 13, 14, 15, 16]),
     ("load", &[0, 1, 2, 5, 13, 14, 15]),
     ("write", &[0, 1, 2, 5, 13, 14]),
-    ("read", &[0, 1, 2, 5, 13, 14]),
+    ("read", &[0, 1, 2, 5, 13, 14, 19]),
     ("view_status", &[0, 1, 2, 5, 13]),
     ("view_place", &[0, 1, 2, 5, 13]),
     ("load_rights", &[0, 23, 24]),
@@ -27,7 +27,7 @@ const REACHABLE: [(&str, &[u64]); 16] = [
 ];
 
 /// What the lists are meant to bring about beside the statuses.
-const SITUATIONS: [&str; 22] = [
+const SITUATIONS: [&str; 28] = [
     "a part of the permanent store",
     "a part of the scratch store",
     "a part of length 0 that is not refused",
@@ -35,8 +35,14 @@ const SITUATIONS: [&str; 22] = [
     "a handle that no allocation gave is accepted",
     "a scope at the last generation",
     "32 entries on a stack record",
-    "a map one word short",
-    "a map one word long",
+    "a start map one word short",
+    "a start map one word long",
+    "a written map one word short",
+    "a written map one word long",
+    "a call with a written map one word short",
+    "a call with a written map one word long",
+    "a 0 that is marked as written is read",
+    "a view of words that are not marked as written",
     "stores of 16,384 words",
     "a permanent store of 16,385 words",
     "a scratch store of 16,385 words",

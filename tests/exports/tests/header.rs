@@ -25,7 +25,7 @@ fn layouts_are_those_of_the_header() {
         &layout!(NewState, "scopes_new_state", words bytes),
         &layout!(View, "scopes_view", store from len),
         &layout!(ScopeStack, "scopes_stack", entries),
-        &layout!(Core, "scopes_core", words bytes permanent permanent_len scratch scratch_len map map_len),
+        &layout!(Core, "scopes_core", words bytes permanent permanent_len scratch scratch_len map map_len written written_len),
     ]
     .concat();
     let facts = ["SCOPES_SIZE_IS(", "SCOPES_OFFSET_IS("];

@@ -39,6 +39,8 @@ pub enum Refusal {
     GenerationsOut = 17,
     /// "line not a frame"
     Frame = 18,
+    /// "op 0a meets a word whose bit there is 0", in the written map
+    Unwritten = 19,
     /// "there are not 36 digits or they break these rules"
     Table = 23,
     /// "any thread is started"

@@ -47,7 +47,7 @@ impl State {
     }
 
     fn outcome(&mut self, supplied: &mut Memory, call: Call) -> Outcome {
-        // "Every later call compares the three lengths."
+        // "Every later call compares the three lengths", and with the written map a fourth.
         self.check_lengths(supplied)?;
         let thread = call.thread;
         match call.op {
@@ -72,7 +72,8 @@ impl State {
         }
     }
 
-    /// "exactly its d words"; a refusal shows "a part of length 0".
+    /// "exactly its d words", which are raw words whether anybody wrote them or not; a refusal shows
+    /// "a part of length 0".
     pub fn view_of<'a>(&self, supplied: &'a Memory, thread: u64, object: u64) -> &'a [u64] {
         match self.viewed_object(supplied, thread, object) {
             Ok(object) => supplied.part(object.first_data(), object.header.data),
@@ -277,16 +278,21 @@ impl State {
         let kind = self.check_thread(thread)?;
         let object = self.usable_object(supplied, kind, object)?;
         refuse_if(index >= object.header.data, Refusal::Index)?;
-        supplied.set_word(object.first_data() + index, word);
+        let number = object.first_data() + index;
+        supplied.set_word(number, word);
+        // "op 09 sets the word's bit"
+        supplied.set_written(number, true);
         Ok(0)
     }
 
-    /// Op 0a: 1, 2, 13, 5, 14.
+    /// Op 0a: 1, 2, 13, 5, 14, 19.
     fn read(&self, supplied: &Memory, thread: u64, object: u64, index: u64) -> Outcome {
         let kind = self.check_thread(thread)?;
         let object = self.usable_object(supplied, kind, object)?;
         refuse_if(index >= object.header.data, Refusal::Index)?;
-        Ok(supplied.word(object.first_data() + index))
+        let number = object.first_data() + index;
+        refuse_if(!supplied.is_written(number), Refusal::Unwritten)?;
+        Ok(supplied.word(number))
     }
 
     /// Refusal 1: "lengths are not those of set-up".
@@ -330,12 +336,13 @@ impl State {
 }
 
 /// The header, then "sets slots and data to 0, sets the map bit of the header and clears those of
-/// its other words".
+/// its other words". The written map: "allocation clears it for the object's words".
 fn write_object(supplied: &mut Memory, first: u64, header: Header) {
-    supplied.set_word(first, header.pack());
-    supplied.set_start(first, true);
-    for number in first + 1..first + header.words() {
+    for number in first..first + header.words() {
         supplied.set_word(number, 0);
         supplied.set_start(number, false);
+        supplied.set_written(number, false);
     }
+    supplied.set_word(first, header.pack());
+    supplied.set_start(first, true);
 }

@@ -1,5 +1,7 @@
 //! Every claim of the third demand, tried by brute force against the book.
 
+use crate::answer::Answer;
+use crate::calls::{Call, Op};
 use crate::history::{History, MadeObject};
 use crate::layout::{Handle, NULL};
 use crate::loads::{Load, Loads};
@@ -20,6 +22,7 @@ pub fn hold(machine: &Machine, history: &History) -> Claim {
     walk_is_rule(machine, history)?;
     objects_lie_within(machine, history)?;
     references_are_sound(machine, history)?;
+    written_bits_are_exact(machine, history)?;
     given_handles_are_exact(machine, history)
 }
 
@@ -131,7 +134,7 @@ fn objects_lie_within(machine: &Machine, history: &History) -> Claim {
             lengths.permanent
         };
         let within = handle.area == object.area
-            && handle.offset + 1 + object.slots + object.data <= area.used
+            && handle.offset + 1 + object.slots + object.data() <= area.used
             && area.used <= area.size
             && area.first + area.size <= store_end;
         claim(within, || {
@@ -159,9 +162,35 @@ fn references_are_sound(machine: &Machine, history: &History) -> Claim {
 
 /// "a reference is the lent word in one of its slots"
 fn reference(machine: &Machine, holder: &MadeObject, slot: u64) -> u64 {
-    let handle = Handle::unpack(holder.handle);
-    let area = machine.state.area(handle.area);
-    machine.supplied.word(area.first + handle.offset + 1 + slot)
+    machine
+        .supplied
+        .word(header_word(machine, holder) + 1 + slot)
+}
+
+/// The number of an object's header word.
+fn header_word(machine: &Machine, object: &MadeObject) -> u64 {
+    let handle = Handle::unpack(object.handle);
+    machine.state.area(handle.area).first + handle.offset
+}
+
+/// The written bit of a live object's data word is 1 exactly if the word was written since the object
+/// was made; that of its header and of its slots is 0.
+fn written_bits_are_exact(machine: &Machine, history: &History) -> Claim {
+    for object in history.live_objects() {
+        let header_and_slots = std::iter::repeat_n(false, 1 + object.slots as usize);
+        let data = object.words.iter().map(Option::is_some);
+        let numbers = header_word(machine, object)..;
+        for (number, written) in numbers.zip(header_and_slots.chain(data)) {
+            claim(machine.supplied.is_written(number) == written, || {
+                let handle = object.handle;
+                format!(
+                    "word {number}, of {handle:x}, is marked as written: {}",
+                    !written
+                )
+            })?;
+        }
+    }
+    Ok(())
 }
 
 /// "a handle whose object is gone is never accepted as one again", and no handle is given twice.
@@ -327,25 +356,66 @@ pub fn view_is_exact(
 ) -> Claim {
     let state = &machine.state;
     let status = state.view_status_of(&machine.supplied, thread, word);
-    let length = state.view_of(&machine.supplied, thread, word).len() as u64;
+    let shown = state.view_of(&machine.supplied, thread, word);
     let (expected, words) = expected_part(history, table, thread, word);
-    claim((status.status, length) == (expected, words), || {
-        format!("thread {thread} is shown {length} words of {word:x}, {status:?}")
+    claim((status.status, shown) == (expected, &words), || {
+        format!("thread {thread} is shown {shown:x?} of {word:x}, {status:?}")
     })?;
     claim(status.value == 0, || "the status call has a value".into())
 }
 
-/// The status and the length, from the book and the table alone: "1, 2, 13, 5".
-fn expected_part(history: &History, table: &RightsTable, thread: u64, word: u64) -> (u64, u64) {
-    let Some(kind) = history.kinds.get(thread as usize).copied().flatten() else {
-        return (2, 0);
-    };
-    let mut live = history.live_objects();
-    let Some(object) = live.find(|object| object.handle == word) else {
-        return (13, 0);
-    };
-    if !table.has_right(kind, object.area, Right::Use) {
-        return (5, 0);
+/// The status and the words. They are raw words: the last one written, or the 0 of allocation.
+fn expected_part(
+    history: &History,
+    table: &RightsTable,
+    thread: u64,
+    word: u64,
+) -> (u64, Vec<u64>) {
+    match usable_object(history, table, thread, word) {
+        Ok(object) => (0, object.words.iter().map(|w| w.unwrap_or(0)).collect()),
+        Err(refusal) => (refusal, Vec::new()),
     }
-    (0, object.data)
+}
+
+/// The object that a thread may use, or the refusal, from the book and the table alone: "2, 13, 5".
+fn usable_object<'a>(
+    history: &'a History,
+    table: &RightsTable,
+    thread: u64,
+    word: u64,
+) -> Result<&'a MadeObject, u64> {
+    let kinds = &history.kinds;
+    let kind = kinds.get(thread as usize).copied().flatten().ok_or(2u64)?;
+    let object = history.live_object(word).ok_or(13u64)?;
+    let usable = table.has_right(kind, object.area, Right::Use);
+    usable.then_some(object).ok_or(5)
+}
+
+/// A read that is not refused by 1 answers what the book and the table tell: "the last word accepted
+/// for that handle and index, or 19 if there is none".
+pub fn read_is_exact(history: &History, table: &RightsTable, call: Call, answer: Answer) -> Claim {
+    let Op::Read { object, index } = call.op else {
+        return Ok(());
+    };
+    let expected = expected_word(history, table, call.thread, object, index);
+    let given = match answer.status {
+        0 => Ok(answer.value),
+        refusal => Err(refusal),
+    };
+    claim(given == expected, || {
+        format!("word {index} of {object:x} reads {given:?}, the list tells {expected:?}")
+    })
+}
+
+/// The word, or the refusal: "2, 13, 5, 14", then 19.
+fn expected_word(
+    history: &History,
+    table: &RightsTable,
+    thread: u64,
+    object: u64,
+    index: u64,
+) -> Result<u64, u64> {
+    let object = usable_object(history, table, thread, object)?;
+    let word = object.words.get(index as usize).ok_or(14u64)?;
+    word.ok_or(19)
 }

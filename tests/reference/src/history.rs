@@ -13,11 +13,19 @@ use crate::state::{is_scope, AREAS, FIRST_SCOPE, HEAP, THREADS};
 pub struct MadeObject {
     pub handle: u64,
     pub slots: u64,
-    pub data: u64,
+    /// Its data words as last written, none where nobody wrote since it was made.
+    pub words: Vec<Option<u64>>,
     pub area: u64,
     pub gone: bool,
     /// The number of the call that made it.
     pub made_at: u64,
+}
+
+impl MadeObject {
+    /// How many data words it has.
+    pub fn data(&self) -> u64 {
+        self.words.len() as u64
+    }
 }
 
 #[derive(Clone, Debug)]
@@ -65,6 +73,11 @@ impl History {
             Op::Enter { area } => self.enter(thread, area),
             Op::Exit => self.exit(thread),
             Op::Allocate { slots, data } => self.allocate(thread, value, slots, data),
+            Op::Write {
+                object,
+                index,
+                word,
+            } => self.write(object, index, word),
             _ => {}
         }
     }
@@ -117,11 +130,19 @@ impl History {
         self.objects.push(MadeObject {
             handle,
             slots,
-            data,
+            words: vec![None; data as usize],
             area,
             gone: false,
             made_at: self.calls,
         });
+    }
+
+    /// What a read of this word must yield from now on.
+    fn write(&mut self, handle: u64, index: u64, word: u64) {
+        let mut live = self.objects.iter_mut().filter(|object| !object.gone);
+        let object = live.find(|object| object.handle == handle);
+        let object = object.expect("a write was accepted for a handle that is not live");
+        object.words[index as usize] = Some(word);
     }
 
     fn row_mut(&mut self, thread: usize) -> &mut Vec<u64> {
@@ -162,6 +183,11 @@ impl History {
 
     pub fn live_objects(&self) -> impl Iterator<Item = &MadeObject> {
         self.objects.iter().filter(|object| !object.gone)
+    }
+
+    /// The live object with a handle.
+    pub fn live_object(&self, handle: u64) -> Option<&MadeObject> {
+        self.live_objects().find(|object| object.handle == handle)
     }
 
     /// "never been empty of threads since that object was made"

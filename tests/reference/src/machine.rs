@@ -14,7 +14,7 @@ pub struct Machine {
 impl Machine {
     /// A machine on zeroed buffers of the lengths that the sizes ask for.
     pub fn zeroed(heap: u64, immortal: u64, scratch: u64) -> Machine {
-        let lengths = Lengths::with_map(heap + immortal, scratch);
+        let lengths = Lengths::with_maps(heap + immortal, scratch);
         Machine::over(heap, immortal, Memory::zeroed(lengths))
     }
 
@@ -36,5 +36,13 @@ impl Machine {
 
     pub fn is_live(&self, word: u64) -> bool {
         self.state.is_live(&self.supplied, word)
+    }
+
+    /// The number of a live object's data word, or of the word at an index past them, if it is lent.
+    pub fn data_word(&self, object: u64, index: u64) -> Option<u64> {
+        let object = self.state.resolve(&self.supplied, object)?;
+        let number = object.first_data().checked_add(index)?;
+        let lengths = self.supplied.lengths();
+        (number < lengths.permanent + lengths.scratch).then_some(number)
     }
 }

@@ -85,12 +85,13 @@ pub fn set_up(heap: u64, immortal: u64, supplied: &Memory) -> (Answer, State) {
     (Answer::refused(Refusal::Lengths), state)
 }
 
-/// "unless h + i = P, P and S are each at most 16,384, and the map has exactly ..."
+/// "unless h + i = P, P and S are each at most 16,384, and the map has exactly ..."; the written map
+/// is "covered by refusal 1".
 fn fits(heap: u64, immortal: u64, lengths: Lengths) -> bool {
     u128::from(heap) + u128::from(immortal) == u128::from(lengths.permanent)
         && lengths.permanent <= MOST_WORDS
         && lengths.scratch <= MOST_WORDS
-        && lengths == Lengths::with_map(lengths.permanent, lengths.scratch)
+        && lengths == Lengths::with_maps(lengths.permanent, lengths.scratch)
 }
 
 impl State {

@@ -5,7 +5,7 @@ use crate::calls::{Call, Op};
 use crate::claims::{self, Claim};
 use crate::frame;
 use crate::generator::Step;
-use crate::history::History;
+use crate::history::{History, MadeObject};
 use crate::loads::Loads;
 use crate::machine::Machine;
 use crate::memory::{Lengths, Memory};
@@ -33,7 +33,7 @@ impl Trial {
     pub fn new(seed: u64, sizes: Sizes) -> Trial {
         let mut random = Random::new(!seed);
         let (heap, immortal, scratch) = sizes;
-        let lengths = Lengths::with_map(heap + immortal, scratch);
+        let lengths = Lengths::with_maps(heap + immortal, scratch);
         let supplied = any_contents(&mut random, lengths);
         Trial {
             machine: Machine::over(heap, immortal, supplied),
@@ -50,6 +50,7 @@ impl Trial {
         let before = self.machine.clone();
         let answer = self.machine.run(call);
         self.value_is_told(call, answer)?;
+        self.read_is_told(call, answer)?;
         self.values.step(&self.history, call, answer);
         self.history.step(call, answer);
         self.same_on_zeroed_words(call, answer)?;
@@ -96,6 +97,11 @@ impl Trial {
         }
     }
 
+    /// A read answers by the calls before it alone.
+    fn read_is_told(&self, call: Call, answer: Answer) -> Claim {
+        claims::read_is_exact(&self.history, &self.loads.table(), call, answer)
+    }
+
     /// "No op 08 in it yields 15." "a refusal and 0".
     fn answer_is_allowed(&self, call: Call, answer: Answer) -> Claim {
         let loaded = matches!(call.op, Op::Load { .. });
@@ -108,23 +114,18 @@ impl Trial {
         Ok(())
     }
 
-    /// "A refusal ... alters no state and no lent word"; only 06, 07 and 09 write lent words, and
-    /// only 01 to 06 the state.
+    /// "A refusal ... alters no state and no lent word"; an accepted call alters what it may.
     fn changes_are_allowed(&self, before: &Machine, call: Call, answer: Answer) -> Claim {
-        let (writes, moves) = match call.op {
-            Op::Allocate { .. } => (true, true),
-            Op::Store { .. } | Op::Write { .. } => (true, false),
-            Op::Load { .. } | Op::Read { .. } => (false, false),
-            _ => (false, true),
+        let allowed = if answer.is_accepted() {
+            changed_by(call.op)
+        } else {
+            &[]
         };
-        let accepted = answer.is_accepted();
-        if !(accepted && writes) && self.machine.supplied != before.supplied {
-            return Err("a lent word changed".into());
+        let changed = changes(before, &self.machine);
+        match changed.iter().find(|part| !allowed.contains(part)) {
+            Some(part) => Err(format!("the {part} changed")),
+            None => Ok(()),
         }
-        if !(accepted && moves) && self.machine.state != before.state {
-            return Err("the state changed".into());
-        }
-        Ok(())
     }
 
     /// A load changes the table in force and nothing else; "A refused load leaves the old table."
@@ -139,7 +140,8 @@ impl Trial {
         Ok(())
     }
 
-    /// The calls of the list that frames cannot make: with other lengths, and the shown part.
+    /// The calls of the list that frames cannot make: with other lengths, and the shown part; and a
+    /// read of any word.
     fn beside(&mut self, call: Call) -> Claim {
         let before = self.machine.clone();
         self.refused_by_lengths(call)?;
@@ -147,19 +149,31 @@ impl Trial {
         let thread = self.random.below(18);
         let table = self.loads.table();
         claims::view_is_exact(&self.machine, &self.history, &table, thread, word)?;
+        self.read_beside(thread, word)?;
         if self.machine != before {
             return Err("a call beside the list changed something".into());
         }
         Ok(())
     }
 
+    /// A read of any data word, or past them.
+    fn read_beside(&mut self, thread: u64, object: u64) -> Claim {
+        let made = self.history.live_object(object);
+        let index = self.random.below(made.map_or(0, MadeObject::data) + 2);
+        let op = Op::Read { object, index };
+        let call = Call { thread, op };
+        let answer = self.machine.run(call);
+        self.read_is_told(call, answer)
+    }
+
     /// Refusal 1, with one buffer a word shorter or longer.
     fn refused_by_lengths(&mut self, call: Call) -> Claim {
         let mut supplied = self.machine.supplied.clone();
-        let buffer = match self.random.below(3) {
+        let buffer = match self.random.below(4) {
             0 => &mut supplied.permanent,
             1 => &mut supplied.scratch,
-            _ => &mut supplied.start_map,
+            2 => &mut supplied.start_map,
+            _ => &mut supplied.written,
         };
         if self.random.percent(50) || buffer.pop().is_none() {
             buffer.push(self.random.word());
@@ -189,10 +203,35 @@ fn any_contents(random: &mut Random, lengths: Lengths) -> Memory {
     for word in supplied.permanent.iter_mut().chain(&mut supplied.scratch) {
         *word = random.word() >> random.below(64);
     }
-    for word in &mut supplied.start_map {
+    for word in supplied.start_map.iter_mut().chain(&mut supplied.written) {
         *word = random.word() | random.word();
     }
     supplied
+}
+
+/// What an accepted call of an op may change.
+fn changed_by(op: Op) -> &'static [&'static str] {
+    match op {
+        Op::Allocate { .. } => &["state", "stores", "start map", "written map"],
+        Op::Store { .. } => &["stores"],
+        Op::Write { .. } => &["stores", "written map"],
+        Op::Load { .. } | Op::Read { .. } => &[],
+        _ => &["state"],
+    }
+}
+
+/// What differs between two machines.
+fn changes(before: &Machine, after: &Machine) -> Vec<&'static str> {
+    let (was, is) = (&before.supplied, &after.supplied);
+    let stores = (&was.permanent, &was.scratch) != (&is.permanent, &is.scratch);
+    let parts = [
+        ("state", before.state != after.state),
+        ("stores", stores),
+        ("start map", was.start_map != is.start_map),
+        ("written map", was.written != is.written),
+    ];
+    let changed = parts.into_iter().filter(|&(_, changed)| changed);
+    changed.map(|(part, _)| part).collect()
 }
 
 fn same_answers(answer: Answer, other: Answer) -> Claim {

@@ -34,6 +34,26 @@ fn example_of_document_01() {
     assert_eq!(text(EXAMPLE), EXAMPLE_ANSWERS);
 }
 
+/// A word that nobody wrote, then a 0 that was written: 19 is 13 in hexadecimal.
+#[test]
+fn unwritten_word() {
+    let list = "\
+0100000000000000000200000000000000000000
+0600000000000000000000000000000000000001
+0a00000000000010000000000000000000000000
+0900000000000010000000000000000000000000
+0a00000000000010000000000000000000000000
+";
+    let expected = "\
+000000000000000000
+000000000000100000
+130000000000000000
+000000000000000000
+000000000000000000
+";
+    assert_eq!(text(list), expected);
+}
+
 #[test]
 fn last_line_feed_may_be_missing() {
     assert_eq!(text(EXAMPLE.trim_end()), EXAMPLE_ANSWERS);

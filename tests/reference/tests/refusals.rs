@@ -2,8 +2,9 @@
 
 mod common;
 
-use common::{Bench, NO_HEAP, ORDINARY, REAL_TIME};
+use common::{buffers, Bench, NO_HEAP, ORDINARY, REAL_TIME};
 use reference::calls::{Call, Op};
+use reference::memory::Memory;
 use reference::state::LAST_GENERATION;
 
 /// A real-time thread in scope 2 of 8 words.
@@ -15,11 +16,21 @@ fn in_scope() -> Bench {
 
 #[test]
 fn number_1_scratch_one_word_short() {
+    every_call_gives_1(|supplied| supplied.scratch.pop());
+}
+
+#[test]
+fn number_1_written_map_one_word_short() {
+    every_call_gives_1(|supplied| supplied.written.pop());
+}
+
+/// Every call is refused by 1 and alters nothing where a buffer has lost a word.
+fn every_call_gives_1(shorten: impl FnOnce(&mut Memory) -> Option<u64>) {
     let mut bench = in_scope();
     let object = bench.object(0, 1, 1);
     let kept = bench.machine.state.clone();
     let mut supplied = bench.machine.supplied.clone();
-    supplied.scratch.pop();
+    assert!(shorten(&mut supplied).is_some());
     let short = supplied.clone();
     let ops = [
         Op::Start { kind: 0 },
@@ -59,14 +70,10 @@ fn number_1_scratch_one_word_short() {
 fn number_1_each_length_counts() {
     let bench = in_scope();
     let mut state = bench.machine.state.clone();
-    for buffer in 0..3 {
+    for buffer in 0..4 {
         for longer in [false, true] {
             let mut supplied = bench.machine.supplied.clone();
-            let words = match buffer {
-                0 => &mut supplied.permanent,
-                1 => &mut supplied.scratch,
-                _ => &mut supplied.start_map,
-            };
+            let words = &mut buffers(&mut supplied)[buffer];
             words.resize(words.len() + 2 * usize::from(longer) - 1, 0);
             let op = Op::Exit;
             let answer = state.run(&mut supplied, Call { thread: 0, op });
@@ -146,8 +153,8 @@ fn number_5_rights_of_use_and_reference() {
     let expected = [(heap, [0, 0, 5]), (immortal, [0, 0, 0]), (scope, [0, 5, 0])];
     for (object, statuses) in expected {
         for (thread, status) in (0..).zip(statuses) {
-            assert_eq!(bench.read(thread, object, 0).0, status);
             assert_eq!(bench.write(thread, object, 0, 7).0, status);
+            assert_eq!(bench.read(thread, object, 0).0, status);
             assert_eq!(bench.load(thread, object, 0).0, status);
             assert_eq!(bench.store(thread, object, 0, 0).0, status);
             assert_eq!(bench.view_answer(thread, object), (status, 0));
@@ -287,14 +294,16 @@ fn number_13_object() {
     assert_eq!(bench.write(0, object + 1, 9, 1), (13, 0));
     assert_eq!(bench.load(0, object ^ 1 << 20, 9), (13, 0));
     assert_eq!(bench.view_answer(0, object + 1), (13, 0));
-    assert_eq!(bench.read(0, object, 0), (0, 0));
+    assert_eq!(bench.write(0, object, 0, 4), (0, 0));
+    assert_eq!(bench.read(0, object, 0), (0, 4));
     bench.exit(0);
     assert_eq!(bench.read(0, object, 0), (13, 0));
     bench.enter(0, 2);
     let again = bench.object(0, 1, 1);
     assert_ne!(object, again);
     assert_eq!(bench.read(0, object, 0), (13, 0));
-    assert_eq!(bench.read(0, again, 0), (0, 0));
+    assert_eq!(bench.write(0, again, 0, 5), (0, 0));
+    assert_eq!(bench.read(0, again, 0), (0, 5));
 }
 
 #[test]
@@ -412,6 +421,33 @@ fn number_17_after_9() {
     assert_eq!(bench.enter(0, 2), (9, 0));
     bench.exit(0);
     assert_eq!(bench.enter(0, 2), (17, 0));
+}
+
+#[test]
+fn number_19_unwritten() {
+    let mut bench = in_scope();
+    let object = bench.object(0, 1, 2);
+    assert_eq!(bench.read(0, object, 0), (19, 0));
+    assert_eq!(bench.write(0, object, 0, 9), (0, 0));
+    assert_eq!(bench.read(0, object, 0), (0, 9));
+    assert_eq!(bench.read(0, object, 1), (19, 0));
+}
+
+/// "after 14", and so after 13 and 5.
+#[test]
+fn number_19_comes_last() {
+    let bench = Bench::with_threads(&[REAL_TIME, ORDINARY]);
+    let mut bench = bench.and_scopes(&[(2, 8)]);
+    bench.enter(0, 2);
+    let object = bench.object(0, 1, 2);
+    for index in [2, 3, 4, u64::MAX] {
+        assert_eq!(bench.read(0, object, index), (14, 0));
+    }
+    assert_eq!(bench.read(0, object, 1), (19, 0));
+    assert_eq!(bench.read(1, object, 1), (5, 0));
+    assert_eq!(bench.read(2, object, 1), (2, 0));
+    bench.exit(0);
+    assert_eq!(bench.read(0, object, 1), (13, 0));
 }
 
 /// "Exit takes off the top entry", yielding the "scope's count left, else 0".

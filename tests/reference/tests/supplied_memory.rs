@@ -2,23 +2,8 @@
 
 mod common;
 
-use common::{Bench, REAL_TIME};
+use common::Bench;
 use reference::layout::{Handle, Header};
-use reference::machine::Machine;
-use reference::memory::{Lengths, Memory};
-
-/// Heap 10, immortal 20, scratch 70, every lent bit 1; a real-time thread is started.
-fn all_ones() -> Bench {
-    let lengths = Lengths::with_map(30, 70);
-    let mut supplied = Memory::zeroed(lengths);
-    supplied.permanent.fill(u64::MAX);
-    supplied.scratch.fill(u64::MAX);
-    supplied.start_map.fill(u64::MAX);
-    let machine = Machine::over(10, 20, supplied);
-    let mut bench = Bench { machine };
-    assert_eq!(bench.start(0, REAL_TIME), (0, 0));
-    bench
-}
 
 fn handle(offset: u64, area: u64, generation: u64) -> u64 {
     Handle {
@@ -32,7 +17,7 @@ fn handle(offset: u64, area: u64, generation: u64) -> u64 {
 /// "sets slots and data to 0, sets the map bit of the header and clears those of its other words"
 #[test]
 fn allocation_writes_its_own_words_alone() {
-    let mut bench = all_ones();
+    let mut bench = Bench::all_ones();
     bench.enter(0, 1);
     assert_eq!(bench.object(0, 1, 2), handle(0, 1, 1));
     let mut permanent = vec![u64::MAX; 30];
@@ -49,7 +34,7 @@ fn allocation_writes_its_own_words_alone() {
 /// Scratch bits follow the permanent ones: scratch word 33 has bit 63, 34 bit 0 of the next word.
 #[test]
 fn scope_bits_count_behind_the_permanent_words() {
-    let mut bench = all_ones();
+    let mut bench = Bench::all_ones();
     bench.make(0, 7, 32);
     bench.make(0, 2, 8);
     bench.enter(0, 2);
@@ -64,7 +49,7 @@ fn scope_bits_count_behind_the_permanent_words() {
 /// "its stored words are not touched"
 #[test]
 fn exit_touches_no_word() {
-    let mut bench = all_ones();
+    let mut bench = Bench::all_ones();
     bench.make(0, 2, 8);
     bench.enter(0, 2);
     let object = bench.object(0, 0, 1);
@@ -81,7 +66,7 @@ fn exit_touches_no_word() {
 /// A start bit of an earlier generation inside a new object makes no handle.
 #[test]
 fn stale_start_bits_are_cleared() {
-    let mut bench = all_ones();
+    let mut bench = Bench::all_ones();
     bench.make(0, 2, 8);
     bench.enter(0, 2);
     bench.object(0, 0, 0);
@@ -95,7 +80,7 @@ fn stale_start_bits_are_cleared() {
 /// Each of the five conditions of liveness, broken alone.
 #[test]
 fn each_condition_of_liveness_counts() {
-    let mut bench = all_ones();
+    let mut bench = Bench::all_ones();
     bench.make(0, 2, 8);
     bench.enter(0, 2);
     let object = bench.object(0, 1, 2);
@@ -125,7 +110,7 @@ fn each_condition_of_liveness_counts() {
 /// "Any live number serves as that handle, however the caller came by it."
 #[test]
 fn forged_by_the_host() {
-    let mut bench = all_ones();
+    let mut bench = Bench::all_ones();
     bench.enter(0, 0);
     bench.object(0, 0, 5);
     // A header with stray high bits, and its start bit, inside the object.
@@ -142,7 +127,7 @@ fn forged_by_the_host() {
 /// Words above the used ones are never taken for objects.
 #[test]
 fn contents_alone_make_no_object() {
-    let mut bench = all_ones();
+    let mut bench = Bench::all_ones();
     for area in 0..64 {
         for generation in 0..3 {
             for offset in 0..100 {
@@ -157,7 +142,7 @@ fn contents_alone_make_no_object() {
 /// "exactly its d words"
 #[test]
 fn view_is_the_data() {
-    let mut bench = all_ones();
+    let mut bench = Bench::all_ones();
     bench.make(0, 2, 8);
     let heap = bench.object(0, 1, 2);
     bench.enter(0, 2);
@@ -177,10 +162,10 @@ fn view_is_the_data() {
     assert!(std::ptr::eq(bench.view(0, heap), &supplied.permanent[2..4]));
 }
 
-/// "A refusal ... alters no state and no lent word", tried on a full area.
+/// "A refusal ... alters no state and no lent word", the written map among them, tried on a full area.
 #[test]
 fn refused_calls_change_nothing() {
-    let mut bench = all_ones();
+    let mut bench = Bench::all_ones();
     bench.make(0, 2, 8);
     bench.enter(0, 2);
     let object = bench.object(0, 1, 6);
@@ -189,6 +174,7 @@ fn refused_calls_change_nothing() {
     assert_eq!(bench.store(0, object, 0, 1), (15, 0));
     assert_eq!(bench.store(0, object, 1, object), (14, 0));
     assert_eq!(bench.write(0, object, 6, 1), (14, 0));
+    assert_eq!(bench.read(0, object, 0), (19, 0));
     assert_eq!(bench.enter(0, 2), (10, 0));
     assert_eq!(bench.make(0, 3, 63), (8, 0));
     assert_eq!(bench.end(0), (11, 0));

@@ -233,9 +233,132 @@ fn sees_a_view_of_another_length() {
     let table = RightsTable::built_in();
     let claim = claims::view_is_exact(&machine, &history, &table, 0, outer);
     assert_eq!(claim, Ok(()));
-    history.objects[0].data = 2;
+    history.objects[0].words.push(None);
     let claim = claims::view_is_exact(&machine, &history, &table, 0, outer);
     assert!(claim.is_err());
+}
+
+/// A write of 7 to the one data word of an object.
+fn write(object: u64) -> Op {
+    let (index, word) = (0, 7);
+    Op::Write {
+        object,
+        index,
+        word,
+    }
+}
+
+/// A data word that nobody wrote is shown as the 0 of allocation, one that was as it was written.
+#[test]
+fn sees_a_view_of_other_words() {
+    let (mut machine, mut history, outer, inner) = nested();
+    run(&mut machine, &mut history, 0, write(outer));
+    let views = |machine: &Machine| {
+        let table = RightsTable::built_in();
+        let view = |object| claims::view_is_exact(machine, &history, &table, 0, object).is_ok();
+        [outer, inner].map(view)
+    };
+    assert_eq!(views(&machine), [true, true]);
+    machine.supplied.scratch[2] = 0;
+    assert_eq!(views(&machine), [false, true]);
+    machine.supplied.scratch[22] = 7;
+    assert_eq!(views(&machine), [false, false]);
+}
+
+/// The header, the slot and the data word of the object in scope 2, of which none was written.
+#[test]
+fn sees_a_word_marked_as_written() {
+    for bit in 0..3 {
+        let words = words_after(|machine, _, _, _| machine.supplied.written[32] |= 1 << bit);
+        let number = 2_048 + bit;
+        assert!(words.contains(&format!("word {number}, of 108000, is marked")));
+        assert!(words.ends_with("as written: true"), "{words}");
+    }
+}
+
+/// The write is accepted, and its bit is cleared after it.
+#[test]
+fn sees_a_written_word_that_is_not_marked() {
+    let words = words_after(|machine, history, outer, _| {
+        run(machine, history, 0, write(outer));
+        machine.supplied.written[32] &= !4;
+    });
+    assert!(words.ends_with("as written: false"), "{words}");
+}
+
+/// The bits of an object that is gone mean nothing.
+#[test]
+fn bits_of_a_gone_object_are_not_asked_for() {
+    let (mut machine, mut history, _, inner) = nested();
+    run(&mut machine, &mut history, 0, write(inner));
+    run(&mut machine, &mut history, 0, Op::Exit);
+    assert_eq!(all_claims(&machine, &history), Ok(()));
+    machine.supplied.written[32] ^= 0b111 << 20;
+    assert_eq!(all_claims(&machine, &history), Ok(()));
+}
+
+/// Every read of the object in scope 2 has one answer: 2, 13, 5, 14, 19 in this order, or the word.
+#[test]
+fn sees_another_answer_to_a_read() {
+    let (mut machine, mut history, outer, inner) = nested();
+    run(&mut machine, &mut history, 0, Op::Exit);
+    run(&mut machine, &mut history, 2, Op::Start { kind: 1 });
+    let table = RightsTable::built_in();
+    let read = |history: &History, thread, object, index, answer| {
+        let op = Op::Read { object, index };
+        claims::read_is_exact(history, &table, Call { thread, op }, answer).is_ok()
+    };
+    let word = Answer::accepted;
+    let unwritten = Answer::refused(Refusal::Unwritten);
+    let rows = [
+        (3, outer, 0, Answer::refused(Refusal::Thread)),
+        (16, inner, 1, Answer::refused(Refusal::Thread)),
+        (0, inner, 0, Answer::refused(Refusal::Object)),
+        (2, inner, 1, Answer::refused(Refusal::Object)),
+        (2, outer, 1, Answer::refused(Refusal::Right)),
+        (0, outer, 1, Answer::refused(Refusal::Index)),
+        (0, outer, 0, unwritten),
+    ];
+    let answers = rows.map(|(_, _, _, answer)| answer);
+    for (thread, object, index, expected) in rows {
+        for answer in answers.into_iter().chain([word(0), word(7)]) {
+            let told = read(&history, thread, object, index, answer);
+            assert_eq!(told, answer == expected, "{thread} {object:x} {answer:?}");
+        }
+    }
+    run(&mut machine, &mut history, 0, write(outer));
+    assert!(read(&history, 0, outer, 0, word(7)));
+    assert!(!read(&history, 0, outer, 0, word(0)));
+    assert!(!read(&history, 0, outer, 0, unwritten));
+}
+
+/// The last accepted word of a handle and an index, and none for a new object over the same words.
+#[test]
+fn history_keeps_the_words_last_written() {
+    let (mut machine, mut history, outer, inner) = nested();
+    let words = |history: &History, handle| history.live_object(handle).map(|o| o.words.clone());
+    assert_eq!(words(&history, inner), Some(vec![None]));
+    let refused = Answer::refused(Refusal::Index);
+    let (thread, op) = (0, write(inner));
+    history.step(Call { thread, op }, refused);
+    assert_eq!(words(&history, inner), Some(vec![None]));
+    for word in [8, 0] {
+        let (object, index) = (inner, 0);
+        let op = Op::Write {
+            object,
+            index,
+            word,
+        };
+        run(&mut machine, &mut history, 0, op);
+        assert_eq!(words(&history, inner), Some(vec![Some(word)]));
+    }
+    assert_eq!(words(&history, outer), Some(vec![None]));
+    run(&mut machine, &mut history, 0, Op::Exit);
+    assert_eq!(words(&history, inner), None);
+    run(&mut machine, &mut history, 0, Op::Enter { area: 3 });
+    let op = Op::Allocate { slots: 0, data: 2 };
+    let again = run(&mut machine, &mut history, 0, op);
+    assert_eq!(words(&history, again), Some(vec![None; 2]));
 }
 
 /// The trial compares with zeroed words, and sees a machine that goes its own way.
@@ -369,8 +492,9 @@ fn history_keeps_rows_parents_and_objects() {
     assert_eq!(history.rows[1], None);
 }
 
-/// Thread 0 in scope 2 with an object that refers to itself; the words of the claim that fails at a
-/// last call, after a change of both machines of the trial.
+/// Thread 0 in scope 2 with an object that refers to itself, the first of whose two data words was
+/// written; the words of the claim that fails at a last call, after a change of both machines of the
+/// trial.
 fn words_of_last(change: impl Fn(&mut Machine, u64), last: impl FnOnce(u64) -> Op) -> String {
     let mut trial = Trial::new(1, FRAME_SIZES);
     let mut call = |op| trial.call(Call { thread: 0, op });
@@ -385,7 +509,7 @@ fn words_of_last(change: impl Fn(&mut Machine, u64), last: impl FnOnce(u64) -> O
     ] {
         assert_eq!(call(op), Ok(()));
     }
-    assert_eq!(call(Op::Allocate { slots: 1, data: 1 }), Ok(()));
+    assert_eq!(call(Op::Allocate { slots: 1, data: 2 }), Ok(()));
     let object = trial.history.objects[0].handle;
     let (slot, target) = (0, object);
     let store = Op::Store {
@@ -393,13 +517,9 @@ fn words_of_last(change: impl Fn(&mut Machine, u64), last: impl FnOnce(u64) -> O
         slot,
         target,
     };
-    assert_eq!(
-        trial.call(Call {
-            thread: 0,
-            op: store
-        }),
-        Ok(())
-    );
+    for op in [store, write(object)] {
+        assert_eq!(trial.call(Call { thread: 0, op }), Ok(()));
+    }
     change(&mut trial.machine, object);
     change(&mut trial.zeroed, object);
     let op = last(object);
@@ -429,4 +549,26 @@ fn trial_sees_another_word_loaded() {
     let clear = |machine: &mut Machine, _| machine.supplied.scratch[1] = 0;
     let words = words_of_last(clear, |object| Op::Load { object, slot: 0 });
     assert!(words.contains("0 is yielded, the list tells"), "{words}");
+}
+
+#[test]
+fn trial_sees_another_word_read() {
+    let clear = |machine: &mut Machine, _| machine.supplied.scratch[2] = 0;
+    let words = words_of_last(clear, |object| Op::Read { object, index: 0 });
+    assert!(words.contains("reads Ok(0), the list tells Ok(7)"));
+}
+
+/// A stale bit: the 0 of allocation is read as if it had been written.
+#[test]
+fn trial_sees_a_word_read_that_nobody_wrote() {
+    let mark = |machine: &mut Machine, _| machine.supplied.set_written(2_048 + 3, true);
+    let words = words_of_last(mark, |object| Op::Read { object, index: 1 });
+    assert!(words.contains("reads Ok(0), the list tells Err(19)"));
+}
+
+#[test]
+fn trial_sees_a_written_word_refused() {
+    let clear = |machine: &mut Machine, _| machine.supplied.set_written(2_048 + 2, false);
+    let words = words_of_last(clear, |object| Op::Read { object, index: 0 });
+    assert!(words.contains("reads Err(19), the list tells Ok(7)"));
 }

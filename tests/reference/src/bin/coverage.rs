@@ -2,9 +2,10 @@
 //! status, which lines were no frames, and which situations came up. It ends with status 1 if one
 //! that can come up never did.
 
-use std::collections::BTreeMap;
+use std::collections::{BTreeMap, BTreeSet};
 use std::process::exit;
 
+use reference::answer::Answer;
 use reference::calls::{Call, Op};
 use reference::frame;
 use reference::layout::{Handle, NULL};
@@ -25,7 +26,7 @@ const REACHABLE: [&[u64]; 10] = [
     &[0, 2, 5, 13, 14, 15, 16],
     &[0, 2, 5, 13, 14],
     &[0, 2, 5, 13, 14],
-    &[0, 2, 5, 13, 14],
+    &[0, 2, 5, 13, 14, 19],
 ];
 
 /// The ways in which a line is no frame.
@@ -50,7 +51,7 @@ const SPOILT: [&str; 17] = [
 ];
 
 /// What the lists are meant to bring about.
-const SITUATIONS: [&str; 34] = [
+const SITUATIONS: [&str; 41] = [
     "stack of 32 entries",
     "32 scopes on one stack",
     "10 where the stack is not empty",
@@ -84,8 +85,28 @@ const SITUATIONS: [&str; 34] = [
     "13 or 15 for a dead handle",
     "13 or 15 for a number never given",
     "13 or 15 for a place inside an object",
+    "0a yields a 0 that was written",
+    "0a yields a word that was written twice",
+    "19 beside a word that was written",
+    "19 where an earlier object was written",
+    "19 there, in another map word than the header's",
+    "19 where a write was refused",
+    "14 that hides a 19",
     "several faults in one call",
 ];
+
+/// What the calls of a list so far have left behind.
+#[derive(Default)]
+struct Past {
+    /// The handles that allocations gave.
+    given: Vec<u64>,
+    /// How often each data word of a handle was written.
+    writings: BTreeMap<(u64, u64), u64>,
+    /// Data words of a handle for which a write was refused.
+    refused: BTreeSet<(u64, u64)>,
+    /// The numbers of words that were ever written, whatever object lay there.
+    ever_written: BTreeSet<u64>,
+}
 
 #[derive(Default)]
 struct Coverage {
@@ -111,10 +132,10 @@ fn main() {
 impl Coverage {
     fn add_list(&mut self, list: &[u8]) {
         let mut machine = Machine::for_frames();
-        let mut given = Vec::new();
+        let mut past = Past::default();
         for line in frame::lines(list) {
             match frame::parse(line) {
-                Some(call) => self.add_call(&mut machine, &mut given, call),
+                Some(call) => self.add_call(&mut machine, &mut past, call),
                 None => count(&mut self.spoilt, fault_of(line)),
             }
         }
@@ -123,27 +144,28 @@ impl Coverage {
         }
     }
 
-    fn add_call(&mut self, machine: &mut Machine, given: &mut Vec<u64>, call: Call) {
+    fn add_call(&mut self, machine: &mut Machine, past: &mut Past, call: Call) {
         let before = machine.state.clone();
         let faults = faults(machine, call);
         let answer = machine.run(call);
-        let (op, p, _, r) = frame::fields(call.op);
+        let (op, p, q, r) = frame::fields(call.op);
         *self.statuses.entry((op, answer.status)).or_default() += 1;
         if faults > 1 {
             count(&mut self.situations, "several faults in one call");
         }
         match answer.status {
+            0 if op == 0x0a => self.add_read(past, (p, q), answer.value),
             0 => self.add_accepted(&before, &machine.state, call, answer.value),
             5 => self.add_right(&before, call),
             9 | 10 => self.add_entry_refused(&before, call, answer.status),
-            13 => self.add_dead(&before, given, p),
-            15 => self.add_dead(&before, given, r),
+            13 => self.add_dead(&before, &past.given, p),
+            14 => self.add_past_data(machine, call.op),
+            15 => self.add_dead(&before, &past.given, r),
             16 => self.add_forbidden(&before, p, r),
+            19 => self.add_unwritten(machine, past, (p, q)),
             _ => {}
         }
-        if let (Op::Allocate { .. }, 0) = (call.op, answer.status) {
-            given.push(answer.value);
-        }
+        past.step(machine, call.op, answer);
     }
 
     fn add_accepted(&mut self, before: &State, after: &State, call: Call, value: u64) {
@@ -223,6 +245,41 @@ impl Coverage {
         );
     }
 
+    fn add_read(&mut self, past: &Past, place: (u64, u64), value: u64) {
+        self.note(value == 0, "0a yields a 0 that was written");
+        let twice = past.writings.get(&place) == Some(&2);
+        self.note(twice, "0a yields a word that was written twice");
+    }
+
+    fn add_unwritten(&mut self, machine: &Machine, past: &Past, place: (u64, u64)) {
+        let (word, index) = place;
+        let Some(object) = machine.state.resolve(&machine.supplied, word) else {
+            return;
+        };
+        let number = object.first_data() + index;
+        let beside = past.writings.keys().any(|&(handle, _)| handle == word);
+        let stale = past.ever_written.contains(&number);
+        let other_map_word = object.first / 64 != number / 64;
+        let refused = past.refused.contains(&place);
+        self.note(beside, "19 beside a word that was written");
+        self.note(stale, "19 where an earlier object was written");
+        self.note(
+            stale && other_map_word,
+            "19 there, in another map word than the header's",
+        );
+        self.note(refused, "19 where a write was refused");
+    }
+
+    /// An index past an object's data, at a word that is not marked as written.
+    fn add_past_data(&mut self, machine: &Machine, op: Op) {
+        let Op::Read { object, index } = op else {
+            return;
+        };
+        let number = machine.data_word(object, index);
+        let unmarked = number.is_some_and(|number| !machine.supplied.is_written(number));
+        self.note(unmarked, "14 that hides a 19");
+    }
+
     fn add_right(&mut self, state: &State, call: Call) {
         let (op, object, _, target) = frame::fields(call.op);
         let Some(kind) = state.thread(call.thread).kind else {
@@ -280,7 +337,7 @@ impl Coverage {
     }
 
     fn print_statuses(&self) {
-        let statuses: Vec<u64> = [0].into_iter().chain(2..=16).collect();
+        let statuses: Vec<u64> = [0].into_iter().chain(2..=16).chain([19]).collect();
         print!("op");
         for status in &statuses {
             print!("{status:>8}");
@@ -330,6 +387,22 @@ fn count(counts: &mut BTreeMap<&'static str, u64>, name: &'static str) {
 
 fn area_of(handle: u64) -> u64 {
     Handle::unpack(handle).area
+}
+
+impl Past {
+    fn step(&mut self, machine: &Machine, op: Op, answer: Answer) {
+        match op {
+            Op::Allocate { .. } if answer.is_accepted() => self.given.push(answer.value),
+            Op::Write { object, index, .. } if answer.is_accepted() => {
+                *self.writings.entry((object, index)).or_default() += 1;
+                self.ever_written.extend(machine.data_word(object, index));
+            }
+            Op::Write { object, index, .. } => {
+                self.refused.insert((object, index));
+            }
+            _ => {}
+        }
+    }
 }
 
 /// How many of its row's conditions a call breaks at once, as far as each can be told alone.

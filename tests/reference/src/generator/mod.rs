@@ -8,6 +8,8 @@ mod threads;
 
 pub use loads::{steps, Step};
 
+use std::collections::BTreeSet;
+
 use crate::answer::Answer;
 use crate::calls::{Call, Op};
 use crate::frame;
@@ -59,6 +61,8 @@ pub struct Generator {
     /// Slots that a reference was stored in, and data words that were written.
     stored: Vec<(u64, u64)>,
     written: Vec<(u64, u64)>,
+    /// The numbers of words that were ever written, whatever object lay there.
+    ever_written: BTreeSet<u64>,
 }
 
 /// A list of `count` lines. The last line feed is missing now and then.
@@ -92,6 +96,7 @@ impl Generator {
             known: Vec::new(),
             stored: Vec::new(),
             written: Vec::new(),
+            ever_written: BTreeSet::new(),
         }
     }
 
@@ -141,6 +146,8 @@ impl Generator {
             }
             Op::Write { object, index, .. } => {
                 keep(&mut self.random, &mut self.written, (object, index));
+                let number = self.machine.data_word(object, index);
+                self.ever_written.extend(number);
             }
             _ => {}
         }

@@ -8,6 +8,9 @@ use crate::mood::Mood;
 use crate::rights::Kind;
 use crate::state::{is_scope, AREAS, THREADS};
 
+/// How often, in a hundred, words where an earlier object was written are used again and read.
+const STALE: u64 = 60;
+
 impl Generator {
     pub(super) fn allocate(&mut self) -> Call {
         let thread = self.thread_that(|state, thread| {
@@ -22,6 +25,11 @@ impl Generator {
     fn shape(&mut self, thread: u64) -> (u64, u64) {
         if self.wild() {
             return self.wild_shape(thread);
+        }
+        if self.random.percent(STALE) {
+            if let Some(shape) = self.stale_shape(thread) {
+                return shape;
+            }
         }
         let scope = thread < THREADS && is_scope(self.machine.state.current_area(thread));
         let tight = match (scope, self.mood) {
@@ -59,6 +67,22 @@ impl Generator {
         let rest = words.saturating_sub(1);
         let slots = self.random.below(rest.min(40) + 1);
         (slots, rest - slots)
+    }
+
+    /// An object whose last data word lies where an earlier object's was written, if there is one
+    /// near.
+    fn stale_shape(&mut self, thread: u64) -> Option<(u64, u64)> {
+        let near = self.room(thread).min(20);
+        if near == 0 {
+            return None;
+        }
+        let state = &self.machine.state;
+        let area = state.area(state.current_area(thread));
+        let header = area.first + area.used;
+        let last = self.ever_written.range(header + 1..header + near).next()?;
+        let rest = last - header;
+        let slots = self.random.below(rest.min(4));
+        Some((slots, rest - slots))
     }
 
     /// Sizes whose sum would wrap, and others that never fit.
@@ -257,7 +281,9 @@ impl Generator {
 
     pub(super) fn write(&mut self) -> Call {
         let thread = self.thread();
-        let (object, index) = self.place(|known| known.data);
+        let in_scope = self.mood == Mood::Churn;
+        let known = self.object(|known| known.data > 0 && (!in_scope || known.in_scope()));
+        let (object, index) = (known.handle, self.index(known.data));
         let word = self.data_word();
         let op = Op::Write {
             object,
@@ -284,13 +310,42 @@ impl Generator {
 
     pub(super) fn read(&mut self) -> Call {
         let thread = self.thread();
-        let place = self.random.one_of(&self.written);
-        let used = self.random.percent(self.mood.used_places());
-        let (object, index) = match place.filter(|_| used) {
-            Some(place) => place,
-            None => self.place(|known| known.data),
-        };
+        let (object, index) = self.place_to_read();
         let op = Op::Read { object, index };
         Call { thread, op }
+    }
+
+    /// A data word that was written, one that only an earlier object's writing could have marked, or
+    /// any.
+    fn place_to_read(&mut self) -> (u64, u64) {
+        let place = if self.random.percent(self.mood.used_places()) {
+            self.random.one_of(&self.written)
+        } else if self.random.percent(STALE) {
+            self.stale_place()
+        } else {
+            None
+        };
+        place.unwrap_or_else(|| self.place(|known| known.data))
+    }
+
+    /// A data word of a live object that nobody wrote, where an earlier object's was written.
+    fn stale_place(&mut self) -> Option<(u64, u64)> {
+        for _ in 0..TRIES {
+            let known = self.remembered()?;
+            let stale: Vec<u64> = (0..known.data)
+                .filter(|&index| self.is_stale(known.handle, index))
+                .collect();
+            if let Some(index) = self.random.one_of(&stale) {
+                return Some((known.handle, index));
+            }
+        }
+        None
+    }
+
+    fn is_stale(&self, object: u64, index: u64) -> bool {
+        let number = self.machine.data_word(object, index);
+        number.is_some_and(|number| {
+            self.ever_written.contains(&number) && !self.machine.supplied.is_written(number)
+        })
     }
 }

@@ -4,6 +4,7 @@
 use reference::answer::Answer;
 use reference::calls::{Call, Op};
 use reference::machine::Machine;
+use reference::memory::{Lengths, Memory};
 
 pub const ORDINARY: u64 = 1;
 pub const REAL_TIME: u64 = 2;
@@ -20,11 +21,40 @@ fn pair(answer: Answer) -> Pair {
     (answer.status, answer.value)
 }
 
+/// Lent buffers, every word of them the same.
+pub fn filled(lengths: Lengths, word: u64) -> Memory {
+    let mut supplied = Memory::zeroed(lengths);
+    for buffer in buffers(&mut supplied) {
+        buffer.fill(word);
+    }
+    supplied
+}
+
+/// The four buffers.
+pub fn buffers(supplied: &mut Memory) -> [&mut Vec<u64>; 4] {
+    let Memory {
+        permanent,
+        scratch,
+        start_map,
+        written,
+    } = supplied;
+    [permanent, scratch, start_map, written]
+}
+
 impl Bench {
     /// The frame reader's sizes, nothing started.
     pub fn new() -> Bench {
         let machine = Machine::for_frames();
         Bench { machine }
+    }
+
+    /// Heap 10, immortal 20, scratch 70, every lent bit 1; a real-time thread is started.
+    pub fn all_ones() -> Bench {
+        let supplied = filled(Lengths::with_maps(30, 70), u64::MAX);
+        let machine = Machine::over(10, 20, supplied);
+        let mut bench = Bench { machine };
+        assert_eq!(bench.start(0, REAL_TIME), (0, 0));
+        bench
     }
 
     /// Threads 0, 1, ... started with these kinds.
