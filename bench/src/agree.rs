@@ -31,6 +31,8 @@ pub fn check() -> String {
         no * yes * no_far * yes_far > 0,
         "each kind of store came up"
     );
+    let [unwritten, written] = seen.reads;
+    assert!(unwritten * written > 0, "each kind of read came up");
     format!(
         "{calls} random calls answered alike; {near} stores were decided by display, walk and scan, \
          {far} by display and walk"
@@ -38,10 +40,11 @@ pub fn check() -> String {
 }
 
 /// How many stores the assignment rule refused and accepted: between areas on the thread's own stack,
-/// and others.
+/// and others. How many reads were of a word that nobody wrote, and of a written one.
 #[derive(Default)]
 struct Seen {
     stores: [[u64; 2]; 2],
+    reads: [u64; 2],
 }
 
 fn run(seed: u64, seen: &mut Seen) {
@@ -86,7 +89,7 @@ fn any_call(random: &mut Random, sides: &mut Sides, handles: &[u64], seen: &mut 
     let object = handles[handles.len() - 1 - recent];
     let other = handles[random.below(handles.len() as u64) as usize];
     let index = random.below(4);
-    match random.below(19) {
+    match random.below(21) {
         0..=2 => sides.enter(t, random.below(20)),
         3..=4 => sides.exit(t),
         5..=7 => {
@@ -96,12 +99,12 @@ fn any_call(random: &mut Random, sides: &mut Sides, handles: &[u64], seen: &mut 
         8..=9 => sides.store(t, object, index, other, seen),
         10..=11 => sides.store(t, other, index, object, seen),
         12..=13 => sides.call(|machine| machine.load(t, object, index)),
-        14 => {
+        14..=15 => {
             let word = random.word() >> 44;
             sides.call(|machine| machine.write(t, object, index, word))
         }
-        15 => sides.call(|machine| machine.read(t, object, index)),
-        16..=17 => sides.view(t, object),
+        16..=17 => sides.read(t, object, index, seen),
+        18..=19 => sides.view(t, object),
         // A thread that is started already.
         _ => sides.call(|machine| machine.start(t % KINDS.len() as u64, 1 + index)),
     }
@@ -205,6 +208,14 @@ impl Sides {
         let answer = self.call(|machine| machine.exit(t));
         if answer.status == 0 {
             self.rows[t as usize].pop();
+        }
+        answer
+    }
+
+    fn read(&mut self, t: u64, object: u64, index: u64, seen: &mut Seen) -> Answer {
+        let answer = self.call(|machine| machine.read(t, object, index));
+        if [0, 19].contains(&answer.status) {
+            seen.reads[usize::from(answer.status == 0)] += 1;
         }
         answer
     }

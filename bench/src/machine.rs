@@ -27,8 +27,8 @@ pub trait Machine {
     fn write(&mut self, t: u64, object: u64, index: u64, word: u64) -> Answer;
     fn read(&mut self, t: u64, object: u64, index: u64) -> Answer;
     fn view(&mut self, t: u64, object: u64) -> View;
-    /// The words of the lent buffers: permanent store, scratch store, map.
-    fn buffers(&self) -> [&[u64]; 3];
+    /// The words of the lent buffers: permanent store, scratch store, start map, written map.
+    fn buffers(&self) -> [&[u64]; 4];
 }
 
 /// The lent buffers and the state, in one piece from the start of a page on, so that they lie alike on all sides;
@@ -38,6 +38,7 @@ struct Memory<S> {
     permanent: [u64; PERMANENT],
     scratch: [u64; SCRATCH],
     map: [u64; MAP],
+    written: [u64; MAP],
     state: S,
 }
 
@@ -47,12 +48,13 @@ impl<S> Memory<S> {
             permanent: [0; PERMANENT],
             scratch: [0; SCRATCH],
             map: [0; MAP],
+            written: [0; MAP],
             state,
         })
     }
 
-    fn buffers(&self) -> [&[u64]; 3] {
-        [&self.permanent, &self.scratch, &self.map]
+    fn buffers(&self) -> [&[u64]; 4] {
+        [&self.permanent, &self.scratch, &self.map, &self.written]
     }
 }
 
@@ -74,7 +76,7 @@ macro_rules! exported {
     ($($method:ident($($number:ident),*) -> $answer:ident: $function:ident;)*) => {
         $(#[inline(always)]
         fn $method(&mut self, $($number: u64),*) -> $answer {
-            let Memory { permanent, scratch, map, state } = &mut *self.memory;
+            let Memory { permanent, scratch, map, written, state } = &mut *self.memory;
             // SAFETY: the state is one of set-up and calls, with the buffers of its set-up, which are arrays with
             // their lengths.
             unsafe {
@@ -87,6 +89,8 @@ macro_rules! exported {
                     scratch.len(),
                     map.as_mut_ptr(),
                     map.len(),
+                    written.as_mut_ptr(),
+                    written.len(),
                     $($number),*
                 )
             }
@@ -100,7 +104,7 @@ impl Machine for Core {
             words: [0; 548],
             bytes: [0; 3108],
         });
-        // SAFETY: three arrays with their lengths.
+        // SAFETY: four arrays with their lengths.
         let state = unsafe {
             c::scopes_set_up(
                 memory.permanent.as_ptr(),
@@ -108,6 +112,8 @@ impl Machine for Core {
                 memory.scratch.as_ptr(),
                 SCRATCH,
                 memory.map.as_ptr(),
+                MAP,
+                memory.written.as_ptr(),
                 MAP,
                 HEAP,
                 PERMANENT as u64 - HEAP,
@@ -126,7 +132,7 @@ impl Machine for Core {
         unsafe { c::scopes_load_rights(words, bytes, text.as_ptr(), text.len()) }
     }
 
-    fn buffers(&self) -> [&[u64]; 3] {
+    fn buffers(&self) -> [&[u64]; 4] {
         self.memory.buffers()
     }
 
@@ -155,8 +161,8 @@ macro_rules! called {
     ) => {
         $(#[inline(always)]
         $visible fn $method(&mut self, $($number: u64),*) -> $answer {
-            let Memory { permanent, scratch, map, state } = &mut *self.memory;
-            let given = $crate_name::$function(state, permanent, scratch, map, $($number),*);
+            let Memory { permanent, scratch, map, written, state } = &mut *self.memory;
+            let given = $crate_name::$function(state, permanent, scratch, map, written, $($number),*);
             $answer { $($field: given.$field),* }
         })*
     };
@@ -185,7 +191,7 @@ macro_rules! side {
                 }
             }
 
-            fn buffers(&self) -> [&[u64]; 3] {
+            fn buffers(&self) -> [&[u64]; 4] {
                 self.memory.buffers()
             }
 

@@ -139,8 +139,11 @@ impl State {
         self.rights[kind as usize - 1][area.min(2)][right as usize]
     }
 
-    fn fits(&self, permanent: &[u64], scratch: &[u64], map: &[u64]) -> bool {
-        permanent.len() == self.permanent && scratch.len() == self.scratch && map.len() == self.map
+    fn fits(&self, permanent: &[u64], scratch: &[u64], map: &[u64], written: &[u64]) -> bool {
+        permanent.len() == self.permanent
+            && scratch.len() == self.scratch
+            && map.len() == self.map
+            && written.len() == self.map
     }
 
     /// Refusals 1 and 2.
@@ -150,9 +153,10 @@ impl State {
         permanent: &[u64],
         scratch: &[u64],
         map: &[u64],
+        written: &[u64],
         t: u64,
     ) -> Result<&Thread, u64> {
-        if !self.fits(permanent, scratch, map) {
+        if !self.fits(permanent, scratch, map, written) {
             return Err(1);
         }
         match self.threads.get(t as usize) {
@@ -180,8 +184,7 @@ impl State {
             return None;
         }
         let at = (record.start + offset) as usize;
-        let bit = if area < 2 { at } else { permanent.len() + at };
-        if map[bit / 64] >> (bit % 64) & 1 == 0 {
+        if !has_bit(map, bit_of(permanent, area, at)) {
             return None;
         }
         let header = if area < 2 { permanent[at] } else { scratch[at] };
@@ -202,10 +205,11 @@ impl State {
         permanent: &[u64],
         scratch: &[u64],
         map: &[u64],
+        written: &[u64],
         t: u64,
         object: u64,
     ) -> Result<(Object, u64), u64> {
-        let kind = self.caller(permanent, scratch, map, t)?.kind;
+        let kind = self.caller(permanent, scratch, map, written, t)?.kind;
         let object = self.look_up(permanent, scratch, map, object).ok_or(13u64)?;
         if !self.allowed(kind, object.area, Right::Use) {
             return Err(5);
@@ -232,6 +236,21 @@ impl State {
         }
         Ok(Some(found.area))
     }
+}
+
+/// The place of a word's bit in either map.
+#[cfg_attr(feature = "in_line", inline(always))]
+fn bit_of(permanent: &[u64], area: usize, at: usize) -> usize {
+    if area < 2 {
+        at
+    } else {
+        permanent.len() + at
+    }
+}
+
+#[cfg_attr(feature = "in_line", inline(always))]
+fn has_bit(map: &[u64], bit: usize) -> bool {
+    map[bit / 64] >> (bit % 64) & 1 != 0
 }
 
 // ---- a load, and ops 01 and 03, which are not measured
@@ -264,8 +283,16 @@ fn rights_of(text: &[u8]) -> Option<Rights> {
     loadable.then_some(rights)
 }
 
-pub fn start(st: &mut State, p: &[u64], s: &[u64], m: &[u64], t: u64, kind: u64) -> Answer {
-    if !st.fits(p, s, m) {
+pub fn start(
+    st: &mut State,
+    p: &[u64],
+    s: &[u64],
+    m: &[u64],
+    w: &[u64],
+    t: u64,
+    kind: u64,
+) -> Answer {
+    if !st.fits(p, s, m, w) {
         return refused(1);
     }
     let Some(thread) = st.threads.get_mut(t as usize) else {
@@ -281,16 +308,18 @@ pub fn start(st: &mut State, p: &[u64], s: &[u64], m: &[u64], t: u64, kind: u64)
     accepted(0)
 }
 
+#[allow(clippy::too_many_arguments)]
 pub fn make(
     st: &mut State,
     p: &[u64],
     s: &[u64],
     m: &[u64],
+    w: &[u64],
     t: u64,
     area: u64,
     size: u64,
 ) -> Answer {
-    if let Err(status) = st.caller(p, s, m, t) {
+    if let Err(status) = st.caller(p, s, m, w, t) {
         return refused(status);
     }
     if !(2..64).contains(&area) {
@@ -311,8 +340,16 @@ pub fn make(
 // ---- ops 04 and 05
 
 #[inline(never)]
-pub fn enter(st: &mut State, p: &[u64], s: &[u64], m: &[u64], t: u64, area: u64) -> Answer {
-    answer(try_enter(st, p, s, m, t, area))
+pub fn enter(
+    st: &mut State,
+    p: &[u64],
+    s: &[u64],
+    m: &[u64],
+    w: &[u64],
+    t: u64,
+    area: u64,
+) -> Answer {
+    answer(try_enter(st, p, s, m, w, t, area))
 }
 
 #[cfg_attr(feature = "in_line", inline(always))]
@@ -321,10 +358,11 @@ fn try_enter(
     p: &[u64],
     s: &[u64],
     m: &[u64],
+    w: &[u64],
     t: u64,
     area: u64,
 ) -> Result<u64, u64> {
-    let thread = st.caller(p, s, m, t)?;
+    let thread = st.caller(p, s, m, w, t)?;
     if area >= 64 || !st.is_made(area as usize) {
         return Err(6);
     }
@@ -376,8 +414,8 @@ fn enter_scope(st: &mut State, area: usize, innermost: u8) -> Result<(), u64> {
 }
 
 #[inline(never)]
-pub fn exit(st: &mut State, p: &[u64], s: &[u64], m: &[u64], t: u64) -> Answer {
-    let len = match st.caller(p, s, m, t) {
+pub fn exit(st: &mut State, p: &[u64], s: &[u64], m: &[u64], w: &[u64], t: u64) -> Answer {
+    let len = match st.caller(p, s, m, w, t) {
         Err(status) => return refused(status),
         Ok(thread) => thread.len,
     };
@@ -409,11 +447,12 @@ pub fn allocate(
     p: &mut [u64],
     s: &mut [u64],
     m: &mut [u64],
+    w: &mut [u64],
     t: u64,
     slots: u64,
     data_words: u64,
 ) -> Answer {
-    let thread = match st.caller(p, s, m, t) {
+    let thread = match st.caller(p, s, m, w, t) {
         Err(status) => return refused(status),
         Ok(thread) => thread,
     };
@@ -431,9 +470,10 @@ pub fn allocate(
     }
     let words = 1 + slots + data_words;
     let at = (record.start + record.used) as usize;
-    let bit = if area < 2 { at } else { p.len() + at };
+    let bit = bit_of(p, area, at);
     m[bit / 64] |= 1 << (bit % 64);
     clear_bits(m, bit + 1, words as usize - 1);
+    clear_bits(w, bit, words as usize);
     let store = if area < 2 { p } else { s };
     store[at] = data_words << 14 | slots;
     store[at + 1..at + words as usize].fill(0);
@@ -520,12 +560,13 @@ fn store_by(
     p: &mut [u64],
     s: &mut [u64],
     m: &[u64],
+    w: &[u64],
     t: u64,
     object: u64,
     slot: u64,
     target: u64,
 ) -> Result<u64, u64> {
-    let (holder, kind) = st.usable(p, s, m, t, object)?;
+    let (holder, kind) = st.usable(p, s, m, w, t, object)?;
     if slot >= holder.slots {
         return Err(14);
     }
@@ -553,12 +594,13 @@ macro_rules! stores {
             p: &mut [u64],
             s: &mut [u64],
             m: &[u64],
+            w: &[u64],
             t: u64,
             object: u64,
             slot: u64,
             target: u64,
         ) -> Answer {
-            answer(store_by($rule, st, p, s, m, t, object, slot, target))
+            answer(store_by($rule, st, p, s, m, w, t, object, slot, target))
         })*
     };
 }
@@ -587,21 +629,32 @@ checks! {
 
 #[inline(never)]
 #[allow(clippy::too_many_arguments)]
-pub fn load(st: &State, p: &[u64], s: &[u64], m: &[u64], t: u64, object: u64, slot: u64) -> Answer {
-    answer(try_load(st, p, s, m, t, object, slot))
+pub fn load(
+    st: &State,
+    p: &[u64],
+    s: &[u64],
+    m: &[u64],
+    w: &[u64],
+    t: u64,
+    object: u64,
+    slot: u64,
+) -> Answer {
+    answer(try_load(st, p, s, m, w, t, object, slot))
 }
 
 #[cfg_attr(feature = "in_line", inline(always))]
+#[allow(clippy::too_many_arguments)]
 fn try_load(
     st: &State,
     p: &[u64],
     s: &[u64],
     m: &[u64],
+    w: &[u64],
     t: u64,
     object: u64,
     slot: u64,
 ) -> Result<u64, u64> {
-    let (holder, kind) = st.usable(p, s, m, t, object)?;
+    let (holder, kind) = st.usable(p, s, m, w, t, object)?;
     if slot >= holder.slots {
         return Err(14);
     }
@@ -618,12 +671,13 @@ pub fn write(
     p: &mut [u64],
     s: &mut [u64],
     m: &[u64],
+    w: &mut [u64],
     t: u64,
     object: u64,
     index: u64,
     word: u64,
 ) -> Answer {
-    let object = match st.usable(p, s, m, t, object) {
+    let object = match st.usable(p, s, m, w, t, object) {
         Err(status) => return refused(status),
         Ok((object, _)) => object,
     };
@@ -631,6 +685,8 @@ pub fn write(
         return refused(14);
     }
     let at = object.at + 1 + (object.slots + index) as usize;
+    let bit = bit_of(p, object.area, at);
+    w[bit / 64] |= 1 << (bit % 64);
     if object.area < 2 {
         p[at] = word;
     } else {
@@ -640,16 +696,18 @@ pub fn write(
 }
 
 #[inline(never)]
+#[allow(clippy::too_many_arguments)]
 pub fn read(
     st: &State,
     p: &[u64],
     s: &[u64],
     m: &[u64],
+    w: &[u64],
     t: u64,
     object: u64,
     index: u64,
 ) -> Answer {
-    let object = match st.usable(p, s, m, t, object) {
+    let object = match st.usable(p, s, m, w, t, object) {
         Err(status) => return refused(status),
         Ok((object, _)) => object,
     };
@@ -657,12 +715,15 @@ pub fn read(
         return refused(14);
     }
     let at = object.at + 1 + (object.slots + index) as usize;
+    if !has_bit(w, bit_of(p, object.area, at)) {
+        return refused(19);
+    }
     accepted(if object.area < 2 { p[at] } else { s[at] })
 }
 
 #[inline(never)]
-pub fn view(st: &State, p: &[u64], s: &[u64], m: &[u64], t: u64, object: u64) -> View {
-    match st.usable(p, s, m, t, object) {
+pub fn view(st: &State, p: &[u64], s: &[u64], m: &[u64], w: &[u64], t: u64, object: u64) -> View {
+    match st.usable(p, s, m, w, t, object) {
         Err(status) => View {
             status,
             store: 0,

@@ -21,6 +21,15 @@ fn ok(answer: Answer) -> u64 {
     answer.value
 }
 
+/// A new object, every data word of it written, so that each can be read.
+fn object<M: Machine>(machine: &mut M) -> u64 {
+    let object = ok(machine.allocate(T, SLOTS, DATA_WORDS));
+    for index in 0..DATA_WORDS {
+        ok(machine.write(T, object, index, index));
+    }
+    object
+}
+
 /// The thread in scopes 2, 3, .., one in the other, with objects in each.
 pub struct Nest<M> {
     machine: M,
@@ -36,7 +45,7 @@ impl<M: Machine> Nest<M> {
         for scope in FIRST_SCOPE..FIRST_SCOPE + depth {
             ok(machine.make(T, scope, 256));
             ok(machine.enter(T, scope));
-            objects.push([(); OBJECTS].map(|()| ok(machine.allocate(T, SLOTS, DATA_WORDS))));
+            objects.push([(); OBJECTS].map(|()| object(&mut machine)));
         }
         // One scope more, for entries, and the next one to be its child.
         ok(machine.make(T, FIRST_SCOPE + depth, 256));

@@ -5,8 +5,16 @@ use crate::state::{accepted, refused, Answer, State, AREAS, FIRST_SCOPE, STACK_E
 
 const LAST_GENERATION: u64 = (1 << 44) - 1;
 
-pub fn start(st: &mut State, p: &[u64], s: &[u64], m: &[u64], t: u64, kind: u64) -> Answer {
-    if st.other_lengths(p, s, m) {
+pub fn start(
+    st: &mut State,
+    p: &[u64],
+    s: &[u64],
+    m: &[u64],
+    w: &[u64],
+    t: u64,
+    kind: u64,
+) -> Answer {
+    if st.other_lengths(p, s, m, w) {
         return refused(1);
     }
     if t >= THREADS {
@@ -24,16 +32,18 @@ pub fn start(st: &mut State, p: &[u64], s: &[u64], m: &[u64], t: u64, kind: u64)
     accepted(0)
 }
 
+#[allow(clippy::too_many_arguments)]
 pub fn make(
     st: &mut State,
     p: &[u64],
     s: &[u64],
     m: &[u64],
+    w: &[u64],
     t: u64,
     area: u64,
     size: u64,
 ) -> Answer {
-    if let Err(status) = st.caller(p, s, m, t) {
+    if let Err(status) = st.caller(p, s, m, w, t) {
         return refused(status);
     }
     if area < FIRST_SCOPE as u64 || area >= AREAS {
@@ -54,8 +64,16 @@ pub fn make(
 }
 
 #[inline(never)]
-pub fn enter(st: &mut State, p: &[u64], s: &[u64], m: &[u64], t: u64, area: u64) -> Answer {
-    match try_enter(st, p, s, m, t, area) {
+pub fn enter(
+    st: &mut State,
+    p: &[u64],
+    s: &[u64],
+    m: &[u64],
+    w: &[u64],
+    t: u64,
+    area: u64,
+) -> Answer {
+    match try_enter(st, p, s, m, w, t, area) {
         Ok(generation) => accepted(generation),
         Err(status) => refused(status),
     }
@@ -67,10 +85,11 @@ fn try_enter(
     p: &[u64],
     s: &[u64],
     m: &[u64],
+    w: &[u64],
     t: u64,
     area: u64,
 ) -> Result<u64, u64> {
-    let rights = st.caller(p, s, m, t)?;
+    let rights = st.caller(p, s, m, w, t)?;
     if area >= AREAS {
         return Err(6);
     }
@@ -132,8 +151,8 @@ fn enter_scope(st: &mut State, area: usize, innermost: u8) -> Result<(), u64> {
 }
 
 #[inline(never)]
-pub fn exit(st: &mut State, p: &[u64], s: &[u64], m: &[u64], t: u64) -> Answer {
-    if let Err(status) = st.caller(p, s, m, t) {
+pub fn exit(st: &mut State, p: &[u64], s: &[u64], m: &[u64], w: &[u64], t: u64) -> Answer {
+    if let Err(status) = st.caller(p, s, m, w, t) {
         return refused(status);
     }
     let thread = &mut st.threads[t as usize & 15];

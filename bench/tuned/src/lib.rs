@@ -1,5 +1,5 @@
 //! The core as a Rust engineer who cares for speed would write it: records of 32 bytes, the place of an area's
-//! first map bit kept in its record, a thread's rights as a mask, one branch for the three lengths, every helper
+//! first map bit kept in its record, a thread's rights as a mask, one branch for the four lengths, every helper
 //! in line. The checks and their order are those of the exported functions.
 //!
 //! It is compiled twice: as safe code, and with the feature `unchecked`, which drops the bounds checks

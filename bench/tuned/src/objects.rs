@@ -14,11 +14,12 @@ pub fn allocate(
     p: &mut [u64],
     s: &mut [u64],
     m: &mut [u64],
+    w: &mut [u64],
     t: u64,
     slots: u64,
     data_words: u64,
 ) -> Answer {
-    let rights = match st.caller(p, s, m, t) {
+    let rights = match st.caller(p, s, m, w, t) {
         Err(status) => return refused(status),
         Ok(rights) => rights,
     };
@@ -36,7 +37,7 @@ pub fn allocate(
     let (at, bit) = (record.start + offset, record.bit + offset);
     let handle = record.generation << 20 | (area as u64) << 14 | u64::from(offset);
     record.used += words;
-    mark(m, bit, words);
+    mark(m, w, bit, words);
     let store = select(area, p, s);
     put(store, at as usize, data_words << 14 | slots);
     clear(part(store, at as usize + 1..(at + words) as usize));
@@ -55,30 +56,37 @@ impl State {
     }
 }
 
-/// Of n bits of the map the first is set and the others are cleared, a word at a time.
+/// Of n bits of the start map the first is set and the others are cleared, of the written map all are cleared: a
+/// word of both at a time, by one mask.
 #[inline(always)]
-fn mark(map: &mut [u64], bit: u32, n: u32) {
+fn mark(map: &mut [u64], written: &mut [u64], bit: u32, n: u32) {
     let (place, low) = (bit as usize / 64, bit % 64);
-    let word = get(map, place);
+    let (word, other) = (get(map, place), get(written, place));
     if low + n <= 64 {
-        let ones = u64::MAX >> (64 - n);
-        put(map, place, word & !(ones << low) | 1 << low);
+        let kept = !(u64::MAX >> (64 - n) << low);
+        put(map, place, word & kept | 1 << low);
+        put(written, place, other & kept);
         return;
     }
-    put(map, place, word & !(u64::MAX << low) | 1 << low);
-    clear_bits(map, place + 1, n - (64 - low));
+    let kept = !(u64::MAX << low);
+    put(map, place, word & kept | 1 << low);
+    put(written, place, other & kept);
+    clear_bits(map, written, place + 1, n - (64 - low));
 }
 
-/// Clears n bits from a word's first one on.
+/// Clears n bits of both maps from a word's first one on.
 #[inline(always)]
-fn clear_bits(map: &mut [u64], mut place: usize, mut n: u32) {
+fn clear_bits(map: &mut [u64], written: &mut [u64], mut place: usize, mut n: u32) {
     while n >= 64 {
         put(map, place, 0);
+        put(written, place, 0);
         place += 1;
         n -= 64;
     }
     if n > 0 {
-        put(map, place, get(map, place) & (u64::MAX << n));
+        let kept = u64::MAX << n;
+        put(map, place, get(map, place) & kept);
+        put(written, place, get(written, place) & kept);
     }
 }
 

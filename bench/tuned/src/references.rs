@@ -11,12 +11,13 @@ pub fn store(
     p: &mut [u64],
     s: &mut [u64],
     m: &[u64],
+    w: &[u64],
     t: u64,
     object: u64,
     slot: u64,
     target: u64,
 ) -> Answer {
-    let (holder, rights) = match st.usable(p, s, m, t, object) {
+    let (holder, rights) = match st.usable(p, s, m, w, t, object) {
         Err(status) => return refused(status),
         Ok(found) => found,
     };
@@ -53,8 +54,18 @@ impl State {
 }
 
 #[inline(never)]
-pub fn load(st: &State, p: &[u64], s: &[u64], m: &[u64], t: u64, object: u64, slot: u64) -> Answer {
-    let (holder, rights) = match st.usable(p, s, m, t, object) {
+#[allow(clippy::too_many_arguments)]
+pub fn load(
+    st: &State,
+    p: &[u64],
+    s: &[u64],
+    m: &[u64],
+    w: &[u64],
+    t: u64,
+    object: u64,
+    slot: u64,
+) -> Answer {
+    let (holder, rights) = match st.usable(p, s, m, w, t, object) {
         Err(status) => return refused(status),
         Ok(found) => found,
     };

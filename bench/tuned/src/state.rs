@@ -39,7 +39,7 @@ pub struct Area {
     pub generation: u64,
     /// The place of its first word in its store.
     pub start: u32,
-    /// The place of that word's bit in the map.
+    /// The place of that word's bit in either map.
     pub bit: u32,
     pub used: u32,
     pub size: u32,
@@ -70,16 +70,19 @@ pub struct State {
     pub threads: [Thread; THREADS as usize],
     pub permanent: usize,
     pub scratch: usize,
+    /// Of either map.
     pub map: usize,
     /// Scratch words that belong to a scope.
     pub taken: u32,
     pub rights: Table,
 }
 
-/// A live object: its area, the place of its header in its store, its slots and its data words.
+/// A live object: its area, the places of its header in its store and of the header's bit in a map, its slots and
+/// its data words.
 pub struct Object {
     pub area: usize,
     pub at: u32,
+    pub bit: u32,
     pub slots: u32,
     pub data_words: u32,
 }
@@ -115,10 +118,17 @@ impl State {
 
     /// Refusal 1, by one branch.
     #[inline(always)]
-    pub fn other_lengths(&self, permanent: &[u64], scratch: &[u64], map: &[u64]) -> bool {
+    pub fn other_lengths(
+        &self,
+        permanent: &[u64],
+        scratch: &[u64],
+        map: &[u64],
+        written: &[u64],
+    ) -> bool {
         let different = (permanent.len() ^ self.permanent)
             | (scratch.len() ^ self.scratch)
-            | (map.len() ^ self.map);
+            | (map.len() ^ self.map)
+            | (written.len() ^ self.map);
         different != 0
     }
 
@@ -129,9 +139,10 @@ impl State {
         permanent: &[u64],
         scratch: &[u64],
         map: &[u64],
+        written: &[u64],
         t: u64,
     ) -> Result<Mask, u64> {
-        if self.other_lengths(permanent, scratch, map) {
+        if self.other_lengths(permanent, scratch, map, written) {
             return Err(1);
         }
         if t >= THREADS {
@@ -171,6 +182,7 @@ impl State {
         Some(Object {
             area,
             at,
+            bit,
             slots,
             data_words,
         })
@@ -183,10 +195,11 @@ impl State {
         permanent: &[u64],
         scratch: &[u64],
         map: &[u64],
+        written: &[u64],
         t: u64,
         object: u64,
     ) -> Result<(Object, Mask), u64> {
-        let rights = self.caller(permanent, scratch, map, t)?;
+        let rights = self.caller(permanent, scratch, map, written, t)?;
         let object = self.look_up(permanent, scratch, map, object).ok_or(13u64)?;
         if !rights.have(Right::Use, object.area) {
             return Err(5);
