@@ -41,13 +41,11 @@ abbrev pub Refuses : ℕ → Borrowed → Borrowed → Borrowed → Borrowed →
 Refuses r words bytes permanent scratch map rest =
     (x : List ℕ) → r ≡ rest (before words bytes) (suppliedWith permanent scratch map x)
 
--- a check answered the object of handle p in the memory m, or the first refusal of a chain
-abbrev pub ChecksIn : Checked → State → Memory → ℕ → (State → Memory → ℕ) → Type 0
-ChecksIn r s m p rest = r ≡ checkedOf (objectOf s m p) (rest s m)
-
+-- a check answered the object of handle p, or the first refusal of a chain
 abbrev pub Checks : Checked → Borrowed → Borrowed → Borrowed → Borrowed → Borrowed → ℕ → (State → Memory → ℕ) → Type 0
 Checks r words bytes permanent scratch map p rest =
-    (x : List ℕ) → ChecksIn r (before words bytes) (suppliedWith permanent scratch map x) p rest
+    (x : List ℕ) → r ≡ checkedOf (objectOf (before words bytes) (suppliedWith permanent scratch map x) p)
+    (rest (before words bytes) (suppliedWith permanent scratch map x))
 
 -- a check answered where word q of a part of the object of handle p lies, or the first refusal of a chain
 abbrev pub Indexes : Indexed → Borrowed → Borrowed → Borrowed → Borrowed → Borrowed → ℕ → Part → ℕ → (State → Memory → ℕ) → Type 0

@@ -13,10 +13,12 @@ use borrow.Author.Tests.{ne-eqb, eqb-true, eqb-false}
 use Rattle.layout.specs.Choice.{pick, cases}
 use Rattle.layout.specs.Handle.{areaOf}
 use Rattle.model.specs.State.{State, Memory, isScope}
+use Rattle.model.specs.Checks.{fits, called, useRest}
 use Rattle.model.specs.References.{placeAfter}
 use Rattle.model.specs.Data.{dataIndex, viewRefusal, viewWords}
 use Rattle.model.specs.Invariant.{Good}
 use Rattle.model.proofs.Accepted.{admitted, use-ok}
+use Rattle.model.proofs.Outcomes.{unfit-fitted, fit-fitted}
 use Rattle.objects.specs.declared.find.Resolved.{Resolved}
 use Rattle.objects.specs.Found.{objectOf}
 use Rattle.objects.specs.Places.{Lies}
@@ -36,6 +38,10 @@ module _ (s : State) (m : Memory) (t p : ℕ) where
   unfolding viewPlaceOf viewStore viewFrom viewLength
   place-refused e h = rw (ne-eqb (viewRefusal s m t p) 0 (λ z. h (e ∙ z)), ← e) refl
 
+  -- lent other lengths
+  pub refused-1 : fits s m ≡ false → 1 ≡ viewRefusal s m t p
+  refused-1 u = sym (unfit-fitted s m u _)
+
   -- of an accepted one, with its object
   module _ (z : viewRefusal s m t p ≡ 0) (o : Resolved) (e : o ≡ objectOf s m p) where
     from-is : o .at + 1 + o .slots ≡ placeAfter s p (dataIndex s m p 0)
@@ -51,6 +57,10 @@ module _ (s : State) (m : Memory) (t p : ℕ) where
     object-in g =
         let a = admitted s m t _ z in
         object-lies s m p o e g (fits-stores s m (a .0 .supplied)) t (use-ok s m t p 0 (a .1) .0)
+
+  -- past 1, a check of the other refusals is one of all
+  pub past-1 : fits s m ≡ true → {c : Checked} → c ≡ checkedOf (objectOf s m p) (called s t (useRest s m t p 0)) → c ≡ checkedOf (objectOf s m p) (viewRefusal s m t p)
+  past-1 f e = e ∙ ap (checkedOf (objectOf s m p)) (sym (fit-fitted s m f _))
 
   -- of what a check answers, in the store that has the words of the handle's area
   pub view-placed : (c : Checked) (k : ℕ) → c ≡ checkedOf (objectOf s m p) (viewRefusal s m t p) → k ≡ pick (isScope (areaOf p)) 1 0 → placedIn c k ≡ viewPlaceOf s m t p

@@ -7,14 +7,15 @@ use tables::Bytes;
 use tables::Words;
 ghost use mathlib.Core.Path.{_≡_};
 ghost use Prim.Native.Nat.{_<_};
-ghost use Rattle.model.specs.Data.{viewRefusal};
+ghost use Rattle.model.specs.Checks.{called, useRest};
 ghost use Rattle.model.specs.Calls as calls;
 ghost use Rattle.tables.specs.Contract.{before, supplied, Usable, viewReply, Replies, Answers};
-ghost use Rattle.objects.specs.Resolving.{ChecksIn};
+ghost use Rattle.objects.specs.Resolving.{Fitting, Checks};
 ghost use Rattle.views.specs.PlacedView.{dataStart, placedIn, viewPlaceOf, PlacedView};
 
-// Where a shown part lies, by numbers: the status of the call; store 0 for the permanent one, 1 for the scratch;
-// which of its words is the first that is shown, and how many are. Refused: all 0 but the status.
+// Where a shown part lies, by numbers: the status of the call; store 0 for the permanent one, 1 for the
+// scratch; which of its words is the first that is shown, and how many are. Refused: all 0 but the
+// status.
 #[repr(C)]
 pub struct ViewPlace {
     pub status: u64,
@@ -23,21 +24,20 @@ pub struct ViewPlace {
     pub len: u64,
 }
 
-// Refusals 1, 2, 13 and 5.
+// Refusals 2, 13 and 5, for a call that has passed 1.
 fn check_view<'a>(
     words: &Words,
     bytes: &Bytes,
     permanent: &'a [u64],
     scratch: &'a [u64],
     map: &[u64],
-    written: &[u64],
     t: u64,
     p: u64,
 ) -> Checked
-    requires { ⌜ Usable words bytes ⌝ }
-    ensures { λ r. ⌜ ChecksIn r (before words bytes) (supplied permanent scratch map written) p (λ s m. viewRefusal s m t p) ⌝ }
+    requires { ⌜ Fitting words bytes permanent scratch map ⌝ }
+    ensures { λ r. ⌜ Checks r words bytes permanent scratch map p (λ s m. called s t (useRest s m t p 0)) ⌝ }
 {
-    let refusal = callers::check_caller(words, bytes, permanent, scratch, map, written, t);
+    let refusal = callers::check_thread(words, bytes, t);
     if refusal != 0 {
         return Checked::Refused(refusal);
     }
@@ -65,8 +65,8 @@ fn placed(checked: Checked, store: u64) -> ViewPlace
     }
 }
 
-// Where the shown part lies, for C and Rust, which cannot be given a part of a slice. Which store has the words is tested first: in the
-// code of either case nothing has to be chosen by it any more.
+// Where the shown part lies, for C and Rust, which cannot be given a part of a slice. Which store has
+// the words is tested right after the lengths, so neither case has to choose by it later.
 pub fn view_place<'a>(
     words: &Words,
     bytes: &Bytes,
@@ -80,16 +80,19 @@ pub fn view_place<'a>(
     requires { ⌜ Usable words bytes ⌝ }
     ensures { λ r. ⌜ r ≡ viewPlaceOf (before words bytes) (supplied permanent scratch map written) t p ⌝ }
 {
-    if 2 <= handle::area(p) {
-        return placed(
-            check_view(words, bytes, permanent, scratch, map, written, t, p),
-            1,
-        );
+    let fit = callers::lengths_fit(words, bytes, permanent, scratch, map, written);
+    if !fit {
+        return ViewPlace {
+            status: 1,
+            store: 0,
+            from: 0,
+            len: 0,
+        };
     }
-    placed(
-        check_view(words, bytes, permanent, scratch, map, written, t, p),
-        0,
-    )
+    if 2 <= handle::area(p) {
+        return placed(check_view(words, bytes, permanent, scratch, map, t, p), 1);
+    }
+    placed(check_view(words, bytes, permanent, scratch, map, t, p), 0)
 }
 
 // The shown part: exactly the object's data words, where they lie; where the call is refused a part
@@ -131,7 +134,14 @@ pub fn view_status<'a>(
     requires { ⌜ Usable words bytes ⌝ }
     ensures { λ r. ⌜ Answers r words bytes permanent scratch map written (calls.viewStatus t p) ⌝ }
 {
-    match check_view(words, bytes, permanent, scratch, map, written, t, p) {
+    let fit = callers::lengths_fit(words, bytes, permanent, scratch, map, written);
+    if !fit {
+        return Answer {
+            status: 1,
+            value: 0,
+        };
+    }
+    match check_view(words, bytes, permanent, scratch, map, t, p) {
         Checked::Refused(status) => Answer { status, value: 0 },
         Checked::Passed(_) => Answer {
             status: 0,
