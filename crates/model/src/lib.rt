@@ -13,7 +13,7 @@ pub struct Area {
     pub depth: u64,
 }
 
-// The lengths of the three lent buffers, in words.
+// The lengths that set-up keeps, in words. The written map has the start map's.
 pub struct Lengths {
     pub permanent: u64,
     pub scratch: u64,
