@@ -1,9 +1,10 @@
--- The rights of a thread, as they are read from the tables.
+-- The rights of a kind and of a thread, as they are read from the tables.
 -- Assumes nothing.
 use Prim.Native.Nat.{ℕ, _≤_, _<_}
 use native.Mathlib.Omega.{arith}
+use mathlib.Core.Bool.{Bool}
 use mathlib.Core.List.{List}
-use mathlib.Core.Path.{_≡_, sym, ap, _∙_}
+use mathlib.Core.Path.{_≡_, refl, sym, ap, _∙_}
 use lib.Dec.{eqb}
 use lib.ListN.{getD}
 use Rattle.rights.specs.Rights.{classOf, digit1, tableSize, placeOf, allows}
@@ -13,9 +14,20 @@ use Rattle.model.specs.State.{threadAt}
 use Rattle.model.specs.Checks.{hasRight}
 use Rattle.model.proofs.Accepted.{Called}
 use Rattle.tables.specs.declared.ThreadWords.{ThreadWords}
-use Rattle.tables.specs.Decode.{stateOf, threadRecord, rightOf}
-use Rattle.tables.specs.Laws.{kind-read, right-read}
+use Rattle.tables.specs.Cut.{getD-cut}
+use Rattle.tables.specs.Decode.{rightsAt, rightsOf, stateOf, threadRecord, rightOf}
+use Rattle.tables.specs.Laws.{kind-read}
 use Rattle.tables.specs.Contract.{Ready}
+
+-- d is the digit at the place i of a kind, the area's class and the right
+pub by-digit : (b : List ℕ) (kind a : ℕ) (r : Right) → 0 < kind → kind ≤ 3 → {i d : ℕ} → i ≡ placeOf kind (classOf a) r → i < tableSize → d ≡ rightOf b i
+    → eqb d digit1 ≡ allows (rightsOf b) kind (classOf a) r
+unfolding rightsOf
+by-digit b kind a r some low {i} p k f = sym (
+    allows-at (rightsOf b) kind (classOf a) some low r
+    ∙ ap (λ (j : ℕ). eqb (getD (rightsOf b) j 0) digit1) (sym p)
+    ∙ ap (λ (c : ℕ). eqb c digit1) (getD-cut b rightsAt tableSize i k ∙ sym f)
+    )
 
 -- x are the words of a started thread
 module _ (w b : List ℕ) (y : Ready w b) (t : ℕ) (h : Called (stateOf w b) t) {x : ThreadWords} (e : x ≡ threadRecord w t) where
@@ -26,13 +38,7 @@ module _ (w b : List ℕ) (y : Ready w b) (t : ℕ) (h : Called (stateOf w b) t)
   pub kind-within : (0 < x .kind) × (x .kind ≤ 3)
   kind-within = (omega (arith, kind-is, h .started), omega (arith, kind-is, y .good .threads .each t (h .thread) .kind))
 
-  -- d is the digit at the place i of its kind, the area's class and the right
-  pub by-digit : (a : ℕ) (r : Right) {i d : ℕ} → i ≡ placeOf (x .kind) (classOf a) r → i < tableSize → d ≡ rightOf b i
-      → eqb d digit1 ≡ hasRight (stateOf w b) t r a
-  unfolding hasRight
-  by-digit a r {i} p k f = sym (
-      ap (λ (n : ℕ). allows (stateOf w b .rights) n (classOf a) r) kind-is
-      ∙ allows-at (stateOf w b .rights) (x .kind) (classOf a) (kind-within .0) (kind-within .1) r
-      ∙ ap (λ (j : ℕ). eqb (getD (stateOf w b .rights) j 0) digit1) (sym p)
-      ∙ ap (λ (c : ℕ). eqb c digit1) (right-read w b i k ∙ sym f)
-      )
+  -- and the rights of its kind
+  pub by-kind : (a : ℕ) (r : Right) {may : Bool} → may ≡ allows (rightsOf b) (x .kind) (classOf a) r → may ≡ hasRight (stateOf w b) t r a
+  unfolding hasRight stateOf
+  by-kind a r f = f ∙ ap (λ (n : ℕ). allows (rightsOf b) n (classOf a) r) (sym kind-is)

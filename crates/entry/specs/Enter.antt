@@ -178,8 +178,8 @@ module _ (w b : List ℕ) (t q : ℕ) (hq : q < 64) {x : Area} (ex : x ≡ areaR
 
 -- what an accepted entry has, from what is read of the areas
 module _ (s : State) (t q : ℕ) (k : Enterable s t q) where
-  pub count-room : {x : Area} → x ≡ areaAt s q → x .count ≤ 512
-  count-room e = rw e (k .count)
+  pub count-room : {x : Area} → x ≡ areaAt s q → x .count < 1024
+  count-room e = rw e (omega (arith, k .count))
 
   pub generation-room : {x : Area} → x ≡ areaAt s q → 2 ≤ q → areaAt s q .count ≤ 0 → x .generation < lastGeneration
   generation-room e h n = rw e (k .generation h (omega arith))

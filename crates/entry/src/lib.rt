@@ -12,7 +12,7 @@ ghost use mathlib.Core.Path.{_≡_};
 ghost use Prim.Native.Nat.{_<_, _≤_};
 ghost use Rattle.layout.specs.Display.{extendedRow};
 ghost use Rattle.model.specs.State.{areaAt, threadAt, stackAt, innermost};
-ghost use Rattle.model.specs.Scopes.{lastGeneration, reentered, opened, enterState, enterValue, enterChange};
+ghost use Rattle.model.specs.Scopes.{lastGeneration, opened, enterState, enterValue, enterChange};
 ghost use Rattle.model.specs.Calls as calls;
 ghost use Rattle.tables.specs.Decode.{displayRow, putRow, Shaped};
 ghost use Rattle.model.proofs.Accepted.{Called};
@@ -60,16 +60,6 @@ fn check_scope(x: Area, inner: u64) -> u64
 }
 
 // ---- the area
-
-// An open scope with one entry more.
-fn reentered_area(x: Area) -> Area
-    requires { ⌜ x .count ≤ 512 ⌝ }
-    ensures { λ r. ⌜ r ≡ reentered x ⌝ }
-{
-    let mut y = x;
-    y.count = x.count + 1;
-    y
-}
 
 // A scope that opens one deeper than its parent.
 fn opened_area(x: Area, parent: u64, depth: Depth) -> Area
@@ -122,7 +112,7 @@ fn reenter(words: &mut Words, bytes: &mut Bytes, t: usize, q: usize) -> u64
 {
     push(words, bytes, t, q as u8, q as u8);
     let x = held_areas::area_at(words, q);
-    held_areas::put_area(words, q, reentered_area(x));
+    held_areas::put_area(words, q, held_areas::reentered(x));
     x.generation
 }
 

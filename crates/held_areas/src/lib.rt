@@ -5,6 +5,7 @@ use tables::Words;
 ghost use mathlib.Core.Path.{_≡_};
 ghost use Prim.Native.Nat.{_<_};
 ghost use Rattle.model.specs.State.{madeAs};
+ghost use Rattle.model.specs.Scopes.{reentered};
 ghost use Rattle.tables.specs.Decode.{areaCount, areaRecord, putArea};
 
 pub fn area_at(words: &Words, a: usize) -> Area
@@ -46,4 +47,14 @@ pub fn is_made(x: Area, a: u64) -> bool
         return true;
     }
     0 < x.size
+}
+
+// An open scope with one entry more.
+pub fn reentered(x: Area) -> Area
+    requires { ⌜ x .count < 1024 ⌝ }
+    ensures { λ r. ⌜ r ≡ reentered x ⌝ }
+{
+    let mut y = x;
+    y.count = x.count + 1;
+    y
 }

@@ -14,26 +14,14 @@ pub fn row_at(bytes: &Bytes, a: usize) -> Row
     requires { ⌜ a < areaCount ⌝ }
     ensures { λ r. ⌜ r ≡ displayRow (now (bytes .entry)) a ⌝ }
 {
-    let at = (DISPLAY_ROWS + a) * ROW_BYTES;
-    let mut row = [0u8; ROW_BYTES];
-    let mut i = 0;
-    while i < ROW_BYTES {
-        row[i] = bytes[at + i];
-        i += 1;
-    }
-    row
+    held_rows::row_at(bytes, DISPLAY_ROWS + a)
 }
 
 pub fn put_row(bytes: &mut Bytes, a: usize, row: Row)
     requires { ⌜ a < areaCount ⌝ }
     ensures { λ r. ⌜ now (bytes .exit) ≡ putRow (now (bytes .entry)) a row ⌝ }
 {
-    let at = (DISPLAY_ROWS + a) * ROW_BYTES;
-    let mut i = 0;
-    while i < ROW_BYTES {
-        bytes[at + i] = row[i];
-        i += 1;
-    }
+    held_rows::put_row(bytes, DISPLAY_ROWS + a, row);
 }
 
 // Whether the display of area b holds an area of a depth: one look.

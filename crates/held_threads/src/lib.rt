@@ -10,7 +10,7 @@ use tables::ThreadWords;
 use tables::Words;
 ghost use mathlib.Core.Path.{_≡_};
 ghost use Prim.Native.Nat.{_<_};
-ghost use Rattle.tables.specs.Decode.{threadCount, rowBytes, threadRecord, putThread, entryRecord, putEntry};
+ghost use Rattle.tables.specs.Decode.{threadCount, rowBytes, threadRecord, putThread, entryRecord, putEntry, copyStack};
 
 pub fn thread_at(words: &Words, t: usize) -> ThreadWords
     requires { ⌜ t < threadCount ⌝ }
@@ -50,4 +50,15 @@ pub fn put_entry(bytes: &mut Bytes, t: usize, place: Place, x: Entry)
     let k = place.0;
     bytes[t * ROW_BYTES + k] = x.area;
     bytes[(INNER_ROWS + t) * ROW_BYTES + k] = x.inner;
+}
+
+// The whole stack of thread t becomes that of thread q: its entries, and the innermost scopes beside them.
+pub fn copy_stack(bytes: &mut Bytes, t: usize, q: usize)
+    requires { ⌜ (t < threadCount) × (q < threadCount) ⌝ }
+    ensures { λ r. ⌜ now (bytes .exit) ≡ copyStack (now (bytes .entry)) t q ⌝ }
+{
+    let entries = held_rows::row_at(bytes, t);
+    held_rows::put_row(bytes, q, entries);
+    let inner = held_rows::row_at(bytes, INNER_ROWS + t);
+    held_rows::put_row(bytes, INNER_ROWS + q, inner);
 }

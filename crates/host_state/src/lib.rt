@@ -1,5 +1,6 @@
-// The core for C and Rust, first part: set-up, and ops 01 to 05: threads start and end, scopes are made,
-// entered and left. One exported function for each call, thin over the crate that has it.
+// The core for C and Rust, first part: set-up, and ops 01 to 05 and 0b: threads start and end, also as helpers
+// with their starters' stacks, scopes are made, entered and left. One exported function for each call, thin over
+// the crate that has it.
 //
 // The host keeps the two tables of the state, `words` and `bytes`, and the four buffers, and lends
 // them to each call. Beside that a call asks one thing, `Usable`: that the tables are those that
@@ -61,6 +62,35 @@ pub extern "C" fn scopes_start(
     ensures { λ r. ⌜ Answers r words bytes permanent scratch map written (calls.start t kind) ⌝ }
 {
     threads::start(words, bytes, permanent, scratch, map, written, t, kind)
+}
+
+// Op 0b: thread t starts a helper of a kind, which begins with the stack of thread t.
+#[no_mangle]
+pub extern "C" fn scopes_start_helper(
+    words: &mut Words,
+    bytes: &mut Bytes,
+    permanent: &[u64],
+    scratch: &[u64],
+    map: &[u64],
+    written: &[u64],
+    t: u64,
+    kind: u64,
+    helper: u64,
+) -> Answer
+    requires { ⌜ Usable words bytes ⌝ }
+    ensures { λ r. ⌜ Answers r words bytes permanent scratch map written (calls.startHelper t kind helper) ⌝ }
+{
+    helpers::start_helper(
+        words,
+        bytes,
+        permanent,
+        scratch,
+        map,
+        written,
+        t,
+        kind,
+        helper,
+    )
 }
 
 // Op 02: thread t ends.

@@ -14,8 +14,9 @@ use Rattle.rights.specs.Rights.{isTable, Loadable}
 use Rattle.rights.specs.Loading.{table-loadable}
 use Rattle.model.specs.State.{State, Memory, areaAt, threadAt, stackAt, innermost, isMade, isOpen}
 use Rattle.model.specs.Checks.{fits, fitted, called, admit, headerAt, live, isObject, isReference, useRest}
-use Rattle.model.specs.Threads.{isKind, startRest, endRest}
+use Rattle.model.specs.Threads.{isKind, startable, startRest, endRest}
 use Rattle.model.specs.Scopes.{makeRest, lastGeneration, otherParent, generationsOut, enterRest, exitRest}
+use Rattle.model.specs.Helpers.{helperRest}
 use Rattle.model.specs.Objects.{currentAt, allocateRest}
 use Rattle.model.specs.References.{mayRefer, slotRest, referenceRest, storeRest}
 use Rattle.model.specs.Data.{dataRest}
@@ -51,19 +52,24 @@ module _ (s : State) (t : ℕ) where
     pub some : 0 < p
     pub kind : p < 4
 
-  pub start-ok : (p : ℕ) → startRest s t p ≡ 0 → StartOk p
-  unfolding startRest
-  start-ok p e =
+  pub startable-ok : (p rest : ℕ) → startable s t p rest ≡ 0 → StartOk p × (rest ≡ 0)
+  unfolding startable
+  startable-ok p rest e =
       let b = peel _ _ _ e in
       let c = peel _ _ _ (b .1) in
       let d = peel _ _ _ (c .1) in
-      let k = and-true (ltb 0 p) _ (not-false (isKind p) (d .0)) in
-      record {
-        thread = omega (arith, leb-false);
-        idle = omega (arith, ltb-false);
-        some = omega (arith, ltb-true);
-        kind = omega (arith, ltb-true);
-      }
+      let k = and-true (ltb 0 p) _ (not-false (isKind p) (d .0)) in (
+        record {
+          thread = omega (arith, leb-false);
+          idle = omega (arith, ltb-false);
+          some = omega (arith, ltb-true);
+          kind = omega (arith, ltb-true);
+        },
+        d .1,
+      )
+
+  pub start-ok : (p : ℕ) → startRest s t p ≡ 0 → StartOk p
+  start-ok p e = startable-ok p 0 e .0
 
   -- op 02
   pub record EndOk : Type 0 where
@@ -163,6 +169,17 @@ module _ (s : State) (t : ℕ) where
       let b = peel _ _ _ (a .1) in
       let c = peel _ _ _ (b .1) in
       record { called = a .0; room = omega (arith, ltb-false) }
+
+-- op 0b
+pub record HelperOk (s : State) (t p q : ℕ) : Type 0 where
+  pub called : Called s t
+  pub helper : StartOk s q p
+
+pub helper-ok : (s : State) (t p q : ℕ) → helperRest s t p q ≡ 0 → HelperOk s t p q
+unfolding helperRest
+helper-ok s t p q e =
+    let a = called-ok s t _ e in
+    record { called = a .0; helper = startable-ok s q p _ (a .1) .0 }
 
 -- calls on an object
 module _ (s : State) (m : Memory) (t : ℕ) where

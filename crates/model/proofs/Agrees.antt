@@ -1,13 +1,13 @@
 -- The history follows the state: set-up leaves both alike, and so does every accepted call.
 -- Assumes nothing.
 use Prim.Native.Nat.{ℕ, suc, _≤_, _<_}
-use mathlib.Core.List.{List, [], _∷_}
+use mathlib.Core.List.{List, [], _∷_, map}
 use mathlib.Core.Path.{_≡_, refl, sym, ap, _∙_}
 use mathlib.Core.Logic.{_≢_}
 use lib.ListN.{length, getD, set, replicate, length-replicate, getD-replicate, List·getD-eq-default}
 use lib.Dec.{eqb, ltb}
 use native.Mathlib.Omega.{arith}
-use lib.Seq.{set-getD}
+use lib.Seq.{getD-set-same, getD-set-other}
 use borrow.Author.Tests.{eqb-true, eqb-false, eq-eqb, ne-eqb, ltb-true, ltb-false, le-leb, lt-leb}
 use Rattle.layout.specs.Choice.{cases}
 use Rattle.model.specs.declared.Area.{Area}
@@ -16,21 +16,23 @@ use Rattle.model.specs.State.{Thread, State, Memory, noThread, areaAt, t
 use Rattle.model.specs.SetUp.{newThread, firstState}
 use Rattle.model.specs.Threads.{startState, endState}
 use Rattle.model.specs.Scopes.{makeState, pushed, enterState, popped, exitState}
+use Rattle.model.specs.Helpers.{helperState}
 use Rattle.model.specs.Objects.{currentAt, allocateState}
-use Rattle.model.specs.Calls.{Call, start, end, make, enter, exit, allocate, store, write, asks, configure, callStatus, callState}
-use Rattle.model.specs.History.{Object, History, blank, threadRow, occurrences, total, historyStart, historyEnter, historyExit, historyAllocate, historyStep}
+use Rattle.model.specs.Calls.{Call, start, end, make, enter, exit, startHelper, allocate, store, write, asks, configure, callStatus, callState}
+use Rattle.model.specs.History.{Object, History, blank, threadRow, occurrences, total, historyThread, historyStart, historyHelper, historyEnter, historyExit, historyAllocate, historyStep}
 use Rattle.model.specs.Invariant.{parentIn, stacksIn, Good}
-use Rattle.model.proofs.Accepted.{fitted-ok, start-ok, end-ok, make-ok, MakeOk, enter-ok, EnterOk, exit-ok, ExitOk, allocate-ok, AllocateOk}
-use Rattle.model.proofs.Lists.{total-set, occ-same}
+use Rattle.model.proofs.Accepted.{fitted-ok, start-ok, end-ok, make-ok, MakeOk, enter-ok, EnterOk, exit-ok, ExitOk, helper-ok, HelperOk, allocate-ok, AllocateOk}
+use Rattle.model.proofs.Lists.{total-set, occ-same, map-set}
 use Rattle.model.proofs.Memory.{put-same, put-other}
 use Rattle.model.proofs.Sound.{Same, same-words}
 use Rattle.model.proofs.Parts.{thread-same, thread-other, stack-is}
 use Rattle.model.proofs.Stacks.{stack-none}
 use Rattle.model.proofs.Bounds.{by-area, current-area}
 use Rattle.model.proofs.Alters.{same-field, make-alters, allocate-alters, enter-stays, open-alters, fresh-alters, enter-others, by-left, exit-stays, exit-others}
-use Rattle.model.proofs.KeepsThreads.{kind-stacks, idle-empty}
+use Rattle.model.proofs.KeepsThreads.{idle-empty}
 use Rattle.model.proofs.KeepsEnter.{enter-thread, enter-thread-other, enter-stacks}
 use Rattle.model.proofs.KeepsExit.{exit-thread, exit-thread-other, top-area, exit-more-area, exit-last-area, pop-is, exit-stacks}
+use Rattle.model.proofs.KeepsHelper.{helper-threads, helper-counts}
 use Rattle.model.proofs.KeepsConfiguration.{configure-same}
 use Rattle.model.proofs.Keeps.{first-stacks, first-area}
 
@@ -59,19 +61,21 @@ module _ (s : State) (g : Good s) (b : History) (m : Same s b) (t : ℕ) (l : t 
       (λ d. rw (eqb-true u t d, e) (m .kinds t))
       (λ d. rw (f u (eqb-false u t d)) (m .kinds u))
 
+  -- the thread is replaced, and no parent changes
+  same-thread : (r : State) (h : Thread) → r .threads ≡ set (s .threads) t h → ((a : ℕ) → parentIn r a ≡ parentIn s a) → Same r (historyThread b t (h .kind) (entriesOf h))
+  unfolding historyThread
+  same-thread r h e f = record {
+    kinds = λ u. ap (λ (l : List Thread). getD l u noThread .kind) e ∙ cases (eqb u t)
+        (λ d. rw (eqb-true u t d, getD-set-same (s .threads) t h noThread (omega (arith, g .threads .size)), put-same))
+        (λ d. rw (getD-set-other (s .threads) t u h noThread (eqb-false u t d), put-other (b .kinds) t (h .kind) u (eqb-false u t d)) (m .kinds u));
+    rows = ap (map entriesOf) e ∙ map-set entriesOf (s .threads) t h ∙ ap (λ (l : List (List ℕ)). set l t (entriesOf h)) (m .rows);
+    parents = λ a. f a ∙ m .parents a;
+  }
+
   -- a thread with no entries becomes of another kind
   same-kind : threadAt s t .len ≡ 0 → (k : ℕ) → Same (withThread s t (withKind (threadAt s t) k)) (historyStart b t k)
-  unfolding historyStart
-  same-kind z k = record {
-    kinds = λ u. cases (eqb u t)
-        (λ d. rw (eqb-true u t d, thread-same s t (withKind (threadAt s t) k) (omega (arith, g .threads .size)), put-same))
-        (λ d. rw (thread-other s t (withKind (threadAt s t) k) u (eqb-false u t d), put-other (b .kinds) t k u (eqb-false u t d)) (m .kinds u));
-    rows = kind-stacks s t k ∙ m .rows ∙ sym (set-getD (b .rows) t []) ∙ ap (set (b .rows) t) empty;
-    parents = λ a. unfold withThread in m .parents a;
-  }
-    where
-      empty : threadRow b t ≡ []
-      empty = ap (λ (r : List (List ℕ)). getD r t []) (sym (m .rows)) ∙ stack-is s t ∙ stack-none (threadAt s t) z
+  same-kind z k = rw (stack-none (withKind (threadAt s t) k) z) at
+      (same-thread (withThread s t (withKind (threadAt s t) k)) (withKind (threadAt s t) k) (unfold withThread in refl) (λ a. unfold withThread in refl))
 
 -- ---- enter
 
@@ -176,6 +180,16 @@ module _ (s : State) (t : ℕ) (g : Good s) (ok : ExitOk s t) (b : History) (e :
   same-exit : Same (exitState s t) (historyExit b t)
   same-exit = by-left s t exit-same-low exit-same-last exit-same-more
 
+-- ---- a helper starts
+
+same-helper : (s : State) (t p q : ℕ) → Good s → HelperOk s t p q → (b : History) → Same s b → Same (helperState s t p q) (historyHelper b t p q)
+unfolding entriesOf
+same-helper s t p q g ok b e = rw row at (same-thread s g b e q (ok .helper .thread) (helperState s t p q) (withKind (threadAt s t) p)
+    (helper-threads s t p q g ok) (λ a. ap (λ (x : Area). x .parent) (helper-counts s t p q g ok .areas a)))
+  where
+    row : stackAt s t ≡ threadRow b t
+    row = sym (stack-is s t) ∙ ap (λ (r : List (List ℕ)). getD r t []) (e .rows)
+
 -- ---- words are given
 
 same-make : (s : State) (t q r : ℕ) → Good s → MakeOk s t q r → (b : History) → Same s b → Same (makeState s q r) b
@@ -207,6 +221,7 @@ same-call s m b (end t) v g e z =
 same-call s m b (make t q r) v g e z = same-make s t q r g (make-ok s t q r (fitted-ok s m _ z .1)) b e
 same-call s m b (enter t q) v g e z = same-enter s t q g (enter-ok s t q (fitted-ok s m _ z .1)) b e
 same-call s m b (exit t) v g e z = same-exit s t g (exit-ok s t (fitted-ok s m _ z .1)) b e
+same-call s m b (startHelper t p q) v g e z = same-helper s t p q g (helper-ok s t p q (fitted-ok s m _ z .1)) b e
 same-call s m b (allocate t q r) v g e z = same-allocate s t q r g (allocate-ok s t q r (fitted-ok s m _ z .1)) b _ e
 same-call s m b (store t p q r) v g e z = same-words s b _ _ e
 same-call s m b (write t p q r) v g e z = same-words s b _ _ e

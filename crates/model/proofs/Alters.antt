@@ -1,20 +1,23 @@
--- What each call does to the areas, the rows and the lengths of a state: none of the areas, or one, is altered.
+-- What each call does to the areas, the rows and the lengths of a state: none of the areas, or one, is altered, or the counts of several.
 -- Assumes nothing.
 use Prim.Native.Nat.{ℕ, suc, _+_, _≤_, _<_}
-use mathlib.Core.List.{List}
-use mathlib.Core.Path.{_≡_, refl, ap, _∙_}
+use mathlib.Core.List.{List, [], _∷_}
+use mathlib.Core.Path.{_≡_, refl, sym, ap, _∙_}
 use mathlib.Core.Logic.{_≢_}
-use lib.ListN.{length}
+use lib.ListN.{length, length-set}
 use lib.Dec.{eqb, leb}
 use native.Mathlib.Omega.{arith}
 use borrow.Author.Tests.{eqb-true, eqb-false, leb-true, leb-false, le-leb, lt-leb, lt-ltb, le-ltb}
 use Rattle.layout.specs.Choice.{cases}
 use Rattle.layout.specs.Display.{extendedRow}
 use Rattle.model.specs.declared.Area.{Area}
-use Rattle.model.specs.State.{Thread, State, areaAt, rowAt, threadAt, withKind, withArea, withRow, withThread, withTaken, stackAt, innermost}
+use Rattle.model.specs.State.{Thread, State, areaAt, rowAt, threadAt, withCount, withKind, withArea, withRow, withThread, withTaken, stackAt, innermost}
 use Rattle.model.specs.Threads.{startState, endState}
 use Rattle.model.specs.Scopes.{madeArea, makeState, reentered, opened, enteredArea, pushed, enterState, left, leftArea, popped, exitState}
+use Rattle.model.specs.Helpers.{raisedArea, raised, helperState}
 use Rattle.model.specs.Objects.{currentAt, grown, allocateState}
+use Rattle.model.specs.History.{occurrences}
+use Rattle.model.proofs.Lists.{occ-nil, occ-same, occ-other, occ-more}
 use Rattle.model.proofs.Parts.{area-same, area-other, row-same, row-other, Untouched}
 use Rattle.model.proofs.Bounds.{by-area}
 
@@ -171,3 +174,88 @@ module _ (s : State) where
 
       pub exit-others : (a : ℕ) → a ≢ currentAt s t → Untouched s (exitState s t) a
       exit-others a ne = by-top (λ k. exit-stays k .all a) (λ k. left-alters k .others a ne)
+
+-- ---- op 0b: the counts of the scopes on a stack are raised
+
+-- every area is as it was but for its count: that of a scope is as much higher as the scope has entries in l, and the others' are as they were
+pub record Raises (s n : State) (l : List ℕ) : Type 0 where
+  pub lengths : n .lengths ≡ s .lengths
+  pub rows : (a : ℕ) → rowAt n a ≡ rowAt s a
+  pub areas : (a : ℕ) → areaAt n a ≡ withCount (areaAt s a) (areaAt n a .count)
+  pub low : (a : ℕ) → a < 2 → areaAt n a .count ≡ areaAt s a .count
+  pub counts : (a : ℕ) → 2 ≤ a → areaAt n a .count ≡ areaAt s a .count + occurrences a l
+
+-- every scope of a list is an area that is open
+abbrev pub AllOpen : State → List ℕ → Type 0
+AllOpen s l = (a : ℕ) → 2 ≤ a → 0 < occurrences a l → (a < 64) × (0 < areaAt s a .count)
+
+pub tail-open : (s : State) (x : ℕ) (l : List ℕ) → AllOpen s (x ∷ l) → AllOpen s l
+tail-open s x l o a h p = o a h (occ-more a x l p)
+
+pub head-open : (s : State) (x : ℕ) (l : List ℕ) → AllOpen s (x ∷ l) → 2 ≤ x → (x < 64) × (0 < areaAt s x .count)
+head-open s x l o h = o x h (omega (arith, occ-same x l))
+
+pub raised-low : (s : State) (x : ℕ) → x < 2 → raisedArea s x ≡ s
+unfolding raisedArea
+raised-low s x h = rw (lt-leb 2 x h)
+
+pub raised-scope : (s : State) (x : ℕ) → 2 ≤ x → raisedArea s x ≡ withArea s x (reentered (areaAt s x))
+unfolding raisedArea
+raised-scope s x h = rw (le-leb 2 x h)
+
+module _ (s : State) where
+  -- what no area's record has a part in stays
+  pub raised-keeps {ℓ} : {A : Type ℓ} (f : State → A) → ((r : State) (x : ℕ) (y : Area) → f (withArea r x y) ≡ f r) → (l : List ℕ) → f (raised s l) ≡ f s
+  unfolding raised raisedArea
+  raised-keeps f k [] = refl
+  raised-keeps f k (x ∷ l) = cases (leb 2 x) (λ e. rw e (k (raised s l) x (reentered (areaAt (raised s l) x)) ∙ raised-keeps f k l)) (λ e. rw e (raised-keeps f k l))
+
+  pub raised-size : (l : List ℕ) → length (raised s l .areas) ≡ length (s .areas)
+  raised-size l = raised-keeps (λ (r : State). length (r .areas)) (λ r x y. unfold withArea in length-set (r .areas) x y) l
+
+  -- a scope more
+  raises-scope : (n : State) (x : ℕ) (l : List ℕ) → length (n .areas) ≡ 64 → 2 ≤ x → x < 64 → Raises s n l → Raises s (withArea n x (reentered (areaAt n x))) (x ∷ l)
+  raises-scope n x l w h k e =
+      let to : Alters n (withArea n x (reentered (areaAt n x))) x (reentered (areaAt n x)) = alters n w x k (reentered (areaAt n x)) in
+      record {
+        lengths = to .lengths ∙ e .lengths;
+        rows = λ a. unfold withArea in e .rows a;
+        areas = λ a. cases (eqb a x)
+            (λ d. rw (eqb-true a x d, to .here) (ap (λ (y : Area). withCount y (suc (areaAt n x .count))) (e .areas x)))
+            (λ d. rw (to .others a (eqb-false a x d) .area) (e .areas a));
+        low = λ a l. rw (to .others a (λ d. omega arith) .area) (e .low a l);
+        counts = λ a j. cases (eqb a x)
+            (λ d. rw (eqb-true a x d, to .here) (omega (arith, e .counts x h, occ-same x l)))
+            (λ d. rw (to .others a (eqb-false a x d) .area) (omega (arith, e .counts a j, occ-other a x l (λ y. eqb-false a x d (sym y)))));
+      }
+
+  -- heap or immortal more
+  raises-low : (n : State) (x : ℕ) (l : List ℕ) → x < 2 → Raises s n l → Raises s n (x ∷ l)
+  raises-low n x l h e = record {
+    lengths = e .lengths;
+    rows = e .rows;
+    areas = e .areas;
+    low = e .low;
+    counts = λ a j. omega (arith, e .counts a j, occ-other a x l (λ d. omega arith));
+  }
+
+  pub raised-raises : length (s .areas) ≡ 64 → (l : List ℕ) → AllOpen s l → Raises s (raised s l) l
+  unfolding raised
+  raised-raises w [] o = record {
+    lengths = refl;
+    rows = λ a. refl;
+    areas = λ a. refl;
+    low = λ a h. refl;
+    counts = λ a h. omega (arith, occ-nil a);
+  }
+  raised-raises w (x ∷ l) o = cases (leb 2 x)
+      (λ e. let h : 2 ≤ x = leb-true 2 x e in
+      rw (raised-scope (raised s l) x h) (raises-scope (raised s l) x l (raised-size l ∙ w) h (head-open s x l o h .0) (raised-raises w l (tail-open s x l o))))
+      (λ e. let h : x < 2 = leb-false 2 x e in
+      rw (raised-low (raised s l) x h) (raises-low (raised s l) x l h (raised-raises w l (tail-open s x l o))))
+
+  pub helper-raises : length (s .areas) ≡ 64 → (t p q : ℕ) → AllOpen s (stackAt s t) → Raises s (helperState s t p q) (stackAt s t)
+  unfolding helperState withThread
+  helper-raises w t p q o =
+      let e : Raises s (raised s (stackAt s t)) (stackAt s t) = raised-raises w (stackAt s t) o in
+      record { lengths = e .lengths; rows = e .rows; areas = e .areas; low = e .low; counts = e .counts }

@@ -21,7 +21,7 @@ use Rattle.model.proofs.Stacks.{length-stack, stack-area}
 
 -- ---- lists
 
-occ-length : (a : ℕ) (l : List ℕ) → occurrences a l ≤ length l
+pub occ-length : (a : ℕ) (l : List ℕ) → occurrences a l ≤ length l
 unfolding occurrences
 occ-length a [] = omega arith
 occ-length a (x ∷ l) = cases (eqb x a) (λ e. rw e (omega (arith, occ-length a l))) (λ e. rw e (omega (arith, occ-length a l)))

@@ -1,4 +1,4 @@
--- The rights table in force is told by the lines alone, and so is what a load answers.
+-- The rights table in force is told by the lines alone, and so is what a load and the start of a helper answer.
 -- Assumes nothing.
 use Prim.Native.Nat.{ℕ}
 use mathlib.Core.Bool.{Bool, not}
@@ -13,16 +13,20 @@ use Rattle.rights.specs.Rights.{isTable}
 use Rattle.model.specs.declared.Lengths.{Lengths}
 use Rattle.model.specs.State.{State, Memory, withArea, withRow, withThread, withTaken, withRights, isOpen, isScope, current, stackAt}
 use Rattle.model.specs.SetUp.{firstState}
-use Rattle.model.specs.Threads.{startState, endState}
+use Rattle.model.specs.Checks.{called}
+use Rattle.model.specs.Threads.{startable, startState, endState}
 use Rattle.model.specs.Scopes.{makeState, enteredArea, enterState, leftArea, exitState}
+use Rattle.model.specs.Helpers.{helperRest, helperState}
 use Rattle.model.specs.Objects.{allocateState}
 use Rattle.model.specs.Configuration.{anyStarted, loadRightsStatus, loadRightsState}
-use Rattle.model.specs.Calls.{Call, start, end, make, enter, exit, allocate, store, write, asks, Configuration, rightsTable, configure, loadRights, configuring, callStatus, callState}
+use Rattle.model.specs.Calls.{Call, start, end, make, enter, exit, startHelper, allocate, store, write, asks, Configuration, rightsTable, configure, loadRights, configuring, callStatus, callState}
 use Rattle.model.specs.Run.{Line}
-use Rattle.model.specs.History.{History}
-use Rattle.model.specs.Values.{loadAnswer, configuredTable, tableStep, tableLine, tableAfter}
+use Rattle.model.specs.History.{History, historyOf}
+use Rattle.model.specs.Values.{loadAnswer, configuredTable, tableStep, tableLine, tableAfter, helperAnswer}
 use Rattle.model.proofs.Sound.{Sound}
-use Rattle.model.proofs.Outcomes.{Transition}
+use Rattle.model.proofs.Alters.{raised-keeps}
+use Rattle.model.proofs.NestingClaims.{stacks}
+use Rattle.model.proofs.Outcomes.{Transition, fit-fitted}
 
 -- ---- the table after a call
 
@@ -39,12 +43,13 @@ unfolding leftArea withArea
 left s q = cases (isScope q) (λ e. rw e refl) (λ e. rw e refl)
 
 table-call : (s : State) (m : Memory) (c : Call) → callState s m c .rights ≡ tableStep (s .rights) c
-unfolding startState endState makeState enterState exitState allocateState withArea withThread withTaken
+unfolding startState endState makeState enterState exitState helperState allocateState withArea withThread withTaken
 table-call s m (start t p) = refl
 table-call s m (end t) = refl
 table-call s m (make t q r) = refl
 table-call s m (enter t q) = entered s q _
 table-call s m (exit t) = left s (current (stackAt s t))
+table-call s m (startHelper t p q) = raised-keeps s (λ (r : State). r .rights) (λ r x y. refl) (stackAt s t)
 table-call s m (allocate t q r) = refl
 table-call s m (store t p q r) = refl
 table-call s m (write t p q r) = refl
@@ -74,3 +79,13 @@ in-force-line s m ls f {l} d = ⊎-elim
 pub load-told : (s : State) (m : Memory) (b : History) → Sound s m b → (text : List ℕ) → callStatus s m (loadRights text) ≡ loadAnswer b text
 unfolding loadRightsStatus anyStarted loadAnswer
 load-told s m b o text = ap (λ (f : ℕ → Bool). refuse (not (isTable text)) 23 (refuse (someBelow f 16) 24 0)) (λ i t. ltb 0 (o .same .kinds t i))
+
+-- ---- what the start of a helper answers
+
+-- the history has the started threads and the rows
+pub helper-told : (s : State) (m : Memory) (ls : List Line) → Sound s m (historyOf ls) → InForce s ls → (t p q : ℕ)
+    → callStatus s m (startHelper t p q) ≡ helperAnswer ls t p q
+unfolding helperRest called startable helperAnswer
+helper-told s m ls o f t p q =
+    fit-fitted s m (o .supplied) _
+    ∙ rw (o .same .kinds t, o .same .kinds q, f, stacks s (historyOf ls) (o .good) (o .same) t) refl

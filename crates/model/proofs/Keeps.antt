@@ -15,15 +15,16 @@ use Rattle.model.specs.declared.Area.{Area}
 use Rattle.model.specs.declared.Lengths.{Lengths}
 use Rattle.model.specs.State.{State, Memory, noArea, noThread, areaAt, entriesOf}
 use Rattle.model.specs.SetUp.{setUpStatus, newThread, firstState, setUpState}
-use Rattle.model.specs.Calls.{Call, start, end, make, enter, exit, allocate, store, write, asks, configure, callStatus, callState, outcomeOf}
+use Rattle.model.specs.Calls.{Call, start, end, make, enter, exit, startHelper, allocate, store, write, asks, configure, callStatus, callState, outcomeOf}
 use Rattle.model.specs.History.{occurrences, total}
 use Rattle.model.specs.Invariant.{ThreadGood, StandingGood, ScopeGood, Placed, stacksIn, Good}
-use Rattle.model.proofs.Accepted.{fitted-ok, start-ok, end-ok, make-ok, enter-ok, exit-ok, allocate-ok}
+use Rattle.model.proofs.Accepted.{fitted-ok, start-ok, end-ok, make-ok, enter-ok, exit-ok, helper-ok, allocate-ok}
 use Rattle.model.proofs.Lists.{each-replicate}
 use Rattle.model.proofs.KeepsThreads.{good-start, good-end}
 use Rattle.model.proofs.KeepsObjects.{good-make, good-allocate}
 use Rattle.model.proofs.KeepsEnter.{good-enter}
 use Rattle.model.proofs.KeepsExit.{good-exit}
+use Rattle.model.proofs.KeepsHelper.{good-helper}
 use Rattle.model.proofs.KeepsConfiguration.{good-configure}
 
 -- ---- set-up
@@ -150,6 +151,7 @@ good-call s m (end t) g e = good-end s t g (end-ok s t (fitted-ok s m _ e .1))
 good-call s m (make t q r) g e = good-make s t q r g (make-ok s t q r (fitted-ok s m _ e .1))
 good-call s m (enter t q) g e = good-enter s t q g (enter-ok s t q (fitted-ok s m _ e .1))
 good-call s m (exit t) g e = good-exit s t g (exit-ok s t (fitted-ok s m _ e .1))
+good-call s m (startHelper t p q) g e = good-helper s t p q g (helper-ok s t p q (fitted-ok s m _ e .1))
 good-call s m (allocate t q r) g e = good-allocate s t q r g (allocate-ok s t q r (fitted-ok s m _ e .1))
 good-call s m (store t p q r) g e = g
 good-call s m (write t p q r) g e = g

@@ -32,6 +32,25 @@ made-size s q e h =
     (λ d. ltb-true 0 (areaAt s q .size) d)
     (or-true (ltb q 2) (ltb 0 (areaAt s q .size)) e)
 
+-- a scope that is open, with one entry more
+pub reentered-good : (s : State) (q : ℕ) {n : State} → GoodWith n s → 2 ≤ q → q < 64 → 0 < areaAt s q .count → GoodWith n (withArea s q (reentered (areaAt s q)))
+reentered-good s q g h k o =
+    good-area s g q (reentered (areaAt s q)) k (λ l. absurd (omega arith)) (λ l. scope)
+    (record { start = refl; size = refl; used = g .placed .used q k })
+  where
+    old : ScopeGood (areaAt s q)
+    old = g .scopes q h k
+
+    scope : ScopeGood (reentered (areaAt s q))
+    scope = record {
+      generation = old .generation;
+      made = λ l. old .made o;
+      begun = λ l. old .begun o;
+      no-parent = λ z. absurd (omega arith);
+      no-words = λ z. absurd (omega arith);
+      no-depth = λ z. absurd (omega arith);
+    }
+
 module _ (s : State) (t q : ℕ) (g : Good s) (ok : EnterOk s t q) where
   -- ---- the thread and the stacks
 
@@ -135,22 +154,7 @@ module _ (s : State) (t q : ℕ) (g : Good s) (ok : EnterOk s t q) where
   entered-thread r k = good-thread r k t (pushed (threadAt s t) q) (pushed-good (threadAt s t) thread q (ok .room) (ok .area) (ok .called .started))
 
   open-good : 2 ≤ q → 0 < areaAt s q .count → GoodWith s (enterState s t q)
-  open-good h o = rw (enter-is-open s t q h o) (entered-thread (withArea s q (reentered (areaAt s q)))
-      (good-area s g q (reentered (areaAt s q)) (ok .area) (λ l. absurd (omega arith)) (λ l. scope)
-      (record { start = refl; size = refl; used = g .placed .used q (ok .area) })))
-    where
-      old : ScopeGood (areaAt s q)
-      old = g .scopes q h (ok .area)
-
-      scope : ScopeGood (reentered (areaAt s q))
-      scope = record {
-        generation = old .generation;
-        made = λ l. old .made o;
-        begun = λ l. old .begun o;
-        no-parent = λ z. absurd (omega arith);
-        no-words = λ z. absurd (omega arith);
-        no-depth = λ z. absurd (omega arith);
-      }
+  open-good h o = rw (enter-is-open s t q h o) (entered-thread (withArea s q (reentered (areaAt s q))) (reentered-good s q g h (ok .area) o))
 
   fresh-good : 2 ≤ q → areaAt s q .count ≡ 0 → GoodWith s (enterState s t q)
   unfolding withRow

@@ -6,6 +6,7 @@ pub mod WrittenSamples
 pub mod BoundSamples
 pub mod MeetingSamples
 pub mod RightsSamples
+pub mod HelperSamples
 pub mod Accepted
 pub mod Lists
 pub mod Nesting
@@ -21,6 +22,7 @@ pub mod KeepsThreads
 pub mod KeepsObjects
 pub mod KeepsEnter
 pub mod KeepsExit
+pub mod KeepsHelper
 pub mod KeepsConfiguration
 pub mod Keeps
 pub mod Agrees

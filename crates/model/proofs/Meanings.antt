@@ -12,13 +12,14 @@ use borrow.Author.Tests.{eqb-true, eqb-false, eq-eqb, ne-eqb}
 use Rattle.layout.specs.Choice.{cases}
 use Rattle.layout.specs.Handle.{offsetOf}
 use Rattle.model.specs.State.{State, Memory, areaAt, current, storeOf}
-use Rattle.model.specs.Calls.{Call, start, end, make, enter, exit, allocate, store, write, asks, configure}
+use Rattle.model.specs.Calls.{Call, start, end, make, enter, exit, startHelper, allocate, store, write, asks, configure}
 use Rattle.model.specs.Run.{Line, World}
-use Rattle.model.specs.History.{Object, History, threadRow, below, occurrences, handles, isScopeOnNone, historyStart, historyEnter, historyExit, historyAllocate, historyWords, historyStep, historyLine, historyFrom, historyOf}
+use Rattle.model.specs.History.{Object, History, threadRow, below, occurrences, handles, isScopeOnNone, historyThread, historyEnter, historyExit, historyAllocate, historyWords, historyStep, historyLine, historyFrom, historyOf}
 use Rattle.model.specs.Claims.{Open, Walk, ends, goes, Meets, here, up, InOrder, keep, skip, onRow, scan, In, Among, Within, Allocates, Since, made, stays, Names, Claims}
 use Rattle.model.proofs.Lists.{on-one, occ-le-total, occ-nil, occ-other}
 use Rattle.model.proofs.Memory.{put-same, put-other}
 use Rattle.model.proofs.Traces.{among-some}
+use Rattle.model.proofs.ValueMeanings.{row-received}
 
 -- ---- lists: what is one of a list stands at some place of it, and nothing else is
 
@@ -215,12 +216,13 @@ module _ (b : History) (a : ℕ) (o : Object) (i : In o (b .objects a)) where
       (λ d. inl (rw (put-other (b .objects) (current (threadRow b t)) (n ∷ b .objects (current (threadRow b t))) a (eqb-false a (current (threadRow b t)) d)) i))
 
   kept-step : (c : Call) (v : ℕ) → KeptOrGone (historyStep b c v)
-  unfolding historyStart historyEnter historyWords
+  unfolding historyThread historyEnter historyWords
   kept-step (start t p) v = inl i
   kept-step (end t) v = inl i
   kept-step (make t q r) v = inl i
   kept-step (enter t q) v = inl i
   kept-step (exit t) v = kept-exit t
+  kept-step (startHelper t p q) v = inl i
   kept-step (allocate t q r) v = kept-allocate t _
   kept-step (store t p q r) v = inl i
   kept-step (write t p q r) v = inl i
@@ -299,3 +301,10 @@ pub stands-in-ancestors : {w : World} {b : History} → Claims w b → (t a c : 
 stands-in-ancestors k t a c h i on m =
     let z = k .order t a h (among-some on) in
     order-among (z .2) (met-among i (z .1) m)
+
+-- "The guarantees on ancestors must cover threads that never called enter": a helper that has just been started, thread q, stands in all ancestors
+-- of each scope on its starter's row
+pub helper-in-ancestors : {w : World} → Claims w (historyOf (w .trace)) → (l : Line) (ls : List Line) → w .trace ≡ l ∷ ls
+    → (t p q : ℕ) → l .call ≡ startHelper t p q → l .reply .status ≡ 0 → q < length (historyOf ls .rows)
+    → (a c : ℕ) → 2 ≤ a → 2 ≤ c → Among a (threadRow (historyOf ls) t) → Meets (historyOf (w .trace) .parents) c a → Among c (threadRow (historyOf (w .trace)) q)
+helper-in-ancestors {w} k l ls d t p q e z n a c h i on m = stands-in-ancestors k q a c h i (rw (d, row-received l ls t p q e z n) on) m

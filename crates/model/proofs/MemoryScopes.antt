@@ -1,4 +1,4 @@
--- Starting and ending a thread, making a scope, entering and leaving an area keep a sound memory.
+-- Starting and ending a thread, making a scope, entering and leaving an area and starting a helper keep a sound memory.
 -- Assumes nothing.
 use Prim.Native.Nat.{ℕ, suc, pred, _≤_, _<_}
 use mathlib.Core.Bool.{true, false}
@@ -11,14 +11,17 @@ use Rattle.model.specs.declared.Area.{Area}
 use Rattle.model.specs.State.{State, Memory, areaAt, threadAt, entriesOf, stackAt, current}
 use Rattle.model.specs.Threads.{startState, endState}
 use Rattle.model.specs.Scopes.{madeArea, makeState, reentered, enterState, left, popped, exitState}
-use Rattle.model.specs.History.{History, threadRow, total, handles, putAt, isScopeOnNone, historyStart, historyEnter, historyExit}
+use Rattle.model.specs.Helpers.{helperState}
+use Rattle.model.specs.History.{History, threadRow, total, handles, putAt, isScopeOnNone, historyThread, historyStart, historyHelper, historyEnter, historyExit}
 use Rattle.model.specs.Invariant.{countIn, Good}
-use Rattle.model.proofs.Accepted.{MakeOk, EnterOk, ExitOk}
+use Rattle.model.proofs.Accepted.{MakeOk, EnterOk, ExitOk, HelperOk}
 use Rattle.model.proofs.Sound.{Same, Sound}
+use Rattle.model.proofs.Parts.{display-same}
 use Rattle.model.proofs.Bounds.{by-area, current-area}
 use Rattle.model.proofs.Agrees.{row-top, left-count}
-use Rattle.model.proofs.Alters.{Stays, Alters, start-stays, end-stays, make-alters, make-rows, freshArea, enter-stays, open-rows, open-alters, fresh-alters, by-left, exit-stays, exit-rows, left-alters}
-use Rattle.model.proofs.MemoryKept.{Moved, moved-same, still-same, moved-all, still-all, count-all, sound-still, sound-opens, sound-shuts}
+use Rattle.model.proofs.KeepsHelper.{helper-counts, helper-closed}
+use Rattle.model.proofs.Alters.{Stays, Alters, Raises, start-stays, end-stays, make-alters, make-rows, freshArea, enter-stays, open-rows, open-alters, fresh-alters, by-left, exit-stays, exit-rows, left-alters}
+use Rattle.model.proofs.MemoryKept.{Moved, Still, moved-same, still-same, moved-all, still-all, count-all, sound-still, sound-opens, sound-shuts}
 
 module _ (s : State) (m : Memory) (b : History) (o : Sound s m b) where
   -- no area is touched, and no object
@@ -27,11 +30,11 @@ module _ (s : State) (m : Memory) (b : History) (o : Sound s m b) where
       (λ a. still-same (k .all a)) (λ a z. sym (ap (λ (x : Area). x .count) (k .all a .area)) ∙ z)
 
   pub sound-start : (t p : ℕ) → Good (startState s t p) → Same (startState s t p) (historyStart b t p) → Sound (startState s t p) m (historyStart b t p)
-  unfolding historyStart
+  unfolding historyThread
   sound-start t p g i = stays-sound (startState s t p) (historyStart b t p) g i (start-stays s t p) refl refl
 
   pub sound-end : (t : ℕ) → Good (endState s t) → Same (endState s t) (historyStart b t 0) → Sound (endState s t) m (historyStart b t 0)
-  unfolding historyStart
+  unfolding historyThread
   sound-end t g i = stays-sound (endState s t) (historyStart b t 0) g i (end-stays s t) refl refl
 
   -- an area of no words has none used, so it may lie elsewhere
@@ -142,3 +145,27 @@ module _ (s : State) (m : Memory) (b : History) (o : Sound s m b) where
 
     pub sound-exit : Sound (exitState s t) m (historyExit b t)
     sound-exit = by-left s t sound-low sound-last sound-more
+
+  -- counts of open scopes rise, and nothing else of an area changes
+  pub sound-helper : (t p q : ℕ) → HelperOk s t p q → Good (helperState s t p q) → Same (helperState s t p q) (historyHelper b t p q)
+      → Sound (helperState s t p q) m (historyHelper b t p q)
+  unfolding historyThread
+  sound-helper t p q k g i = sound-still s m b o (helperState s t p q) (historyHelper b t p q) g i (to .lengths) moves refl refl still
+      (λ a z. helper-closed s t p q (o .good) k a .1 z)
+    where
+      to : Raises s (helperState s t p q) (stackAt s t)
+      to = helper-counts s t p q (o .good) k
+
+      moves : (a : ℕ) → Moved (areaAt s a) (areaAt (helperState s t p q) a)
+      moves a = record {
+        start = λ u. ap (λ (x : Area). x .start) (to .areas a);
+        later = omega (arith, ap (λ (x : Area). x .generation) (to .areas a));
+        fresh = λ u z. absurd (omega (arith, helper-closed s t p q (o .good) k a .0 z));
+      }
+
+      still : (a : ℕ) → Still s (helperState s t p q) a
+      still a = record {
+        used = ap (λ (x : Area). x .used) (to .areas a);
+        generation = ap (λ (x : Area). x .generation) (to .areas a);
+        display = display-same s (helperState s t p q) a (ap (λ (x : Area). x .depth) (to .areas a)) (to .rows a);
+      }

@@ -85,7 +85,7 @@ nested-but par par′ dis dis′ q r f z n =
 -- ---- one row is replaced
 
 module _ {par : ℕ → ℕ} {dis : ℕ → List ℕ} {cnt : ℕ → ℕ} {rows : List (List ℕ)} (v : Nesting par dis cnt rows) (t : ℕ) (ht : t < 16) where
-  nesting-set : (par′ : ℕ → ℕ) (dis′ : ℕ → List ℕ) (cnt′ : ℕ → ℕ) (r : List ℕ)
+  pub nesting-set : (par′ : ℕ → ℕ) (dis′ : ℕ → List ℕ) (cnt′ : ℕ → ℕ) (r : List ℕ)
       → ((a : ℕ) → 2 ≤ a → a < 64 → cnt′ a + occurrences a (getD rows t []) ≡ cnt a + occurrences a r)
       → ((u : ℕ) → u < 16 → u ≢ t → Nested par′ dis′ (getD rows u []))
       → Nested par′ dis′ r

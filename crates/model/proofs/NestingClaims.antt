@@ -16,7 +16,7 @@ use Rattle.layout.specs.StackLaws.{length-down}
 use Rattle.model.specs.declared.Area.{Area}
 use Rattle.model.specs.State.{Thread, State, noArea, noThread, areaAt, rowAt, threadAt, entriesOf, stackAt, isOpen, displayAt, displayHolds}
 use Rattle.model.specs.Checks.{isStarted}
-use Rattle.model.specs.History.{History, startedIn, threadRow, occurrences}
+use Rattle.model.specs.History.{History, startedIn, threadRow, occurrences, total}
 use Rattle.model.specs.Claims.{Open, Walk, Meets, InOrder, scan}
 use Rattle.model.specs.Invariant.{Nested, Nesting, countIn, Good}
 use Rattle.model.proofs.Nesting.{Chain, row-at, StandsOn, stands-on}
@@ -67,6 +67,13 @@ module _ (s : State) (b : History) (g : Good s) (e : Same s b) where
       below o = cases (leb 64 a)
           (λ d. absurd (omega (arith, ap (λ (x : Area). x .count) (past a (leb-true 64 a d)))))
           (λ d. leb-false 64 a d)
+
+  pub counts : (a : ℕ) → 2 ≤ a → areaAt s a .count ≡ total a (b .rows)
+  counts a h = cases (ltb a 64)
+      (λ d. history-nesting .counts a h (ltb-true a 64 d))
+      (λ d. let k : 64 ≤ a = ltb-false a 64 d in cases (ltb 0 (total a (b .rows)))
+      (λ o. absurd (omega (arith, open-at a (h, ltb-true 0 (total a (b .rows)) o) .1 .0 .area)))
+      (λ o. omega (arith, ap (λ (x : Area). x .count) (past a k), ltb-false 0 (total a (b .rows)) o)))
 
   no-depth : (a : ℕ) → isOpen s a ≡ false → areaAt s a .depth ≡ 0
   no-depth a o = cases (leb 64 a)

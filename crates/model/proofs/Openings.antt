@@ -14,14 +14,16 @@ use Rattle.model.specs.declared.Lengths.{Lengths}
 use Rattle.model.specs.State.{State, Memory, areaAt, threadAt, entriesOf}
 use Rattle.model.specs.SetUp.{firstState}
 use Rattle.model.specs.Scopes.{enterState, enterValue, popped, exitState, exitValue}
+use Rattle.model.specs.Helpers.{helperState}
 use Rattle.model.specs.Objects.{currentAt}
-use Rattle.model.specs.Calls.{Call, start, end, make, enter, exit, allocate, store, write, asks, configure, callStatus, callValue, callState}
+use Rattle.model.specs.Calls.{Call, start, end, make, enter, exit, startHelper, allocate, store, write, asks, configure, callStatus, callValue, callState}
 use Rattle.model.specs.Run.{Line}
 use Rattle.model.specs.History.{History, total, historyExit, historyOf}
 use Rattle.model.specs.Values.{openingStep, lastOpening, entryGeneration, entriesLeft}
-use Rattle.model.proofs.Accepted.{fitted-ok, MakeOk, make-ok, EnterOk, enter-ok, ExitOk, exit-ok, AllocateOk, allocate-ok}
+use Rattle.model.proofs.Accepted.{fitted-ok, MakeOk, make-ok, EnterOk, enter-ok, ExitOk, exit-ok, HelperOk, helper-ok, AllocateOk, allocate-ok}
 use Rattle.model.proofs.Sound.{generationIn, Sound}
 use Rattle.model.proofs.Bounds.{by-area, current-area}
+use Rattle.model.proofs.KeepsHelper.{helper-counts}
 use Rattle.model.proofs.KeepsConfiguration.{configure-stays}
 use Rattle.model.proofs.Keeps.{first-scope}
 use Rattle.model.proofs.Agrees.{row-top, left-count}
@@ -91,6 +93,11 @@ module _ (s : State) (m : Memory) (b : History) (o : Sound s m b) where
       (λ h. carried-all (left-alters s t (o .good .areas) (current-area s (o .good) t (k .called .thread)) h)
       record { start = λ p. refl; generation = refl } a)
 
+  carried-helper : (t p q : ℕ) → HelperOk s t p q → (a : ℕ) → Carried (areaAt s a) (areaAt (helperState s t p q) a) (generationIn s a)
+  carried-helper t p q k a =
+      let e = helper-counts s t p q (o .good) k .areas a in
+      record { start = λ u. ap (λ (x : Area). x .start) e; generation = ap (λ (x : Area). x .generation) e }
+
   -- any accepted call
   pub carried-call : (c : Call) → callStatus s m c ≡ 0 → (a : ℕ)
       → Carried (areaAt s a) (areaAt (callState s m c) a) (openingStep b a (generationIn s a) c (callValue s m c))
@@ -102,6 +109,7 @@ module _ (s : State) (m : Memory) (b : History) (o : Sound s m b) where
       record { start = λ p. absurd (omega (arith, k .unmade, o .good .placed .used q (k .area))); generation = refl } a
   carried-call (enter t q) z a = carried-enter t q (enter-ok s t q (fitted-ok s m _ z .1)) a
   carried-call (exit t) z a = carried-exit t (exit-ok s t (fitted-ok s m _ z .1)) a
+  carried-call (startHelper t p q) z a = carried-helper t p q (helper-ok s t p q (fitted-ok s m _ z .1)) a
   carried-call (allocate t q r) z a =
       let k : AllocateOk s t q r = allocate-ok s t q r (fitted-ok s m _ z .1) in
       carried-all (allocate-alters s (o .good .areas) (currentAt s t) (current-area s (o .good) t (k .called .thread)) q r)

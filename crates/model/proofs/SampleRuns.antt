@@ -15,8 +15,9 @@ use Rattle.layout.specs.Display.{rowHolds}
 use Rattle.model.specs.State.{State, Memory, noArea, withWords, withUsed, withGeneration, withCount, withParent, withKind, withStack, withArea, withRow, withThread, withTaken, withRights, entriesOf, innermost, isMade, displayHolds, withStore}
 use Rattle.model.specs.SetUp.{standing, newThread, firstState}
 use Rattle.model.specs.Checks.{fits, fitted, called, hasRight, live, isObject, isReference, useRest}
-use Rattle.model.specs.Threads.{startRest, startState, endRest, endState}
+use Rattle.model.specs.Threads.{startable, startState, endRest, endState}
 use Rattle.model.specs.Scopes.{makeRest, makeState, otherParent, generationsOut, enterRest, enteredArea, pushed, enterState, enterValue, exitRest, leftArea, popped, exitState, exitValue}
+use Rattle.model.specs.Helpers.{mayEnterAll, helperRest, raisedArea, raised, helperState}
 use Rattle.model.specs.Objects.{allocateRest, allocateState, filled, objectWords, objectBits, unwrittenBits, allocateMemory, allocateValue}
 use Rattle.model.specs.References.{mayRefer, storeAfter, slotRest, referenceRest, storeRest, loadRest}
 use Rattle.model.specs.Data.{dataRest, writeMemory, readRest, viewWords}
@@ -29,8 +30,8 @@ unfoldable pub answer : World → Call → Reply
 unfolding refuse handleOf offsetOf areaOf generationOf headerOf slotsOf dataOf down bitAt withBit withoutBit cleared classOf allows textOf rightsRows builtIn
     allBelow someBelow isBinary onlyBinary allocatorUses allocatorsUse isTable rowHolds
     withArea withRow withThread withTaken withRights entriesOf innermost isMade displayHolds withStore firstState fits fitted called hasRight live isObject isReference useRest
-    startRest startState endRest endState makeRest makeState otherParent generationsOut enterRest enteredArea pushed enterState enterValue
-    exitRest leftArea popped exitState exitValue
+    startable startState endRest endState makeRest makeState otherParent generationsOut enterRest enteredArea pushed enterState enterValue
+    exitRest leftArea popped exitState exitValue mayEnterAll helperRest raisedArea raised helperState
     allocateRest allocateState filled objectWords objectBits unwrittenBits allocateMemory allocateValue mayRefer storeAfter slotRest referenceRest storeRest loadRest
     dataRest writeMemory readRest viewWords anyStarted loadRightsStatus loadRightsState outcomeOf step begin
 answer w c = outcomeOf (w .state) (w .memory) c .reply

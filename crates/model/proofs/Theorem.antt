@@ -18,7 +18,7 @@ use Rattle.model.specs.Claims.{In, Among, Since, made, stays, Names, Cla
 use Rattle.model.proofs.Sound.{Sound}
 use Rattle.model.proofs.Keeps.{good-first}
 use Rattle.model.proofs.Agrees.{same-first}
-use Rattle.model.proofs.NestingClaims.{started, stacks, opens, parents, displays, dropped, threads, scopes, heights, room, order, looks, walked, scanned}
+use Rattle.model.proofs.NestingClaims.{started, stacks, opens, parents, counts, displays, dropped, threads, scopes, heights, room, order, looks, walked, scanned}
 use Rattle.model.proofs.Live.{live-given, given-live, dead-not}
 use Rattle.model.proofs.KeepsMemory.{sound-first}
 use Rattle.model.proofs.MemoryClaims.{one-object, slot-holds, within, given-in, in-given}
@@ -147,6 +147,7 @@ module _ (w : World) (o : Told w) where
     stacks = stacks (w .state) b (sound .good) (sound .same);
     opens = opens (w .state) b (sound .good) (sound .same);
     parents = parents (w .state) b (sound .good) (sound .same);
+    counts = counts (w .state) b (sound .good) (sound .same);
     displays = displays (w .state) b (sound .good) (sound .same);
     dropped = dropped (w .state) b (sound .good) (sound .same);
     threads = threads (w .state) b (sound .good) (sound .same);
@@ -174,6 +175,7 @@ module _ (w : World) (o : Told w) where
     rights = o .table;
     loadable = sound .good .rights;
     reloads = λ l before i. each-answers i (o .answers) .reloads;
+    helpers = λ l before i. each-answers i (o .answers) .helpers;
   }
 
 -- The one theorem: from an accepted set-up, with any contents of the lent words, after every list of calls. The list has loads of any text at any place,

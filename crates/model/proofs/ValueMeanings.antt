@@ -1,20 +1,23 @@
 -- What the words of specs/History.antt and specs/Values.antt say: each line of a trace follows the lines before it, a store is what is last stored, a
--- write what is last written, an opening is the last opening, and what is refused changes nothing.
+-- write what is last written, an opening is the last opening, a helper has its starter's row, and what is refused changes nothing.
 -- Assumes nothing.
-use Prim.Native.Nat.{ℕ, suc, _≤_}
+use Prim.Native.Nat.{ℕ, suc, _+_, _≤_, _<_}
 use mathlib.Core.List.{List, [], _∷_, _++_}
 use mathlib.Core.Path.{_≡_, refl, ap}
 use mathlib.Core.Logic.{_≢_}
 use lib.Dec.{eqb}
+use lib.ListN.{length}
+use lib.Seq.{getD-set-same, getD-set-other}
 use native.Mathlib.Omega.{arith}
 use borrow.Author.Tests.{eqb-true, eqb-false, eq-eqb, ne-eqb, le-leb}
 use Rattle.layout.specs.Choice.{cases}
 use Rattle.layout.specs.Handle.{null}
-use Rattle.model.specs.Calls.{Call, enter, allocate, store, write}
+use Rattle.model.specs.Calls.{Call, enter, startHelper, allocate, store, write}
 use Rattle.model.specs.Run.{Line}
-use Rattle.model.specs.History.{total, historyAllocate, historyWords, historyStep, historyLine, historyFrom, historyOf}
+use Rattle.model.specs.History.{threadRow, occurrences, total, historyThread, historyAllocate, historyWords, historyStep, historyLine, historyFrom, historyOf}
 use Rattle.model.specs.Values.{openingStep, openingLine, lastOpening}
 use Rattle.model.specs.Claims.{Open, Follows, newest, older}
+use Rattle.model.proofs.Lists.{total-set, occ-nil}
 use Rattle.model.proofs.Memory.{put-same, put-word-own, put-word-other}
 
 pub follows-all : (ks ls : List Line) (l : Line) → Follows l ls (ks ++ (l ∷ ls))
@@ -77,3 +80,28 @@ module _ (l : Line) (ls : List Line) where
   opening-stays t q e h a = cases (eqb (l .reply .status) 0)
       (λ z. rw (opening-accepted (eqb-true (l .reply .status) 0 z) a (enter t q) e, le-leb 2 q (h .0), ne-eqb (total q (historyOf ls .rows)) 0 (λ n. omega (arith, h .1))))
       (λ z. opening-refused (eqb-false (l .reply .status) 0 z) a)
+
+  -- ---- helpers
+
+  -- right after an accepted start of a helper, thread q
+  module _ (t p q : ℕ) (e : l .call ≡ startHelper t p q) (z : l .reply .status ≡ 0) where
+    -- it has its starter's row, and every other thread the row that it had
+    pub row-received : q < length (historyOf ls .rows) → threadRow (historyOf (l ∷ ls)) q ≡ threadRow (historyOf ls) t
+    unfolding historyThread
+    row-received h = rw (history-accepted z (startHelper t p q) e) (getD-set-same (historyOf ls .rows) q (threadRow (historyOf ls) t) [] h)
+
+    pub row-stays : (u : ℕ) → u ≢ q → threadRow (historyOf (l ∷ ls)) u ≡ threadRow (historyOf ls) u
+    unfolding historyThread
+    row-stays u n = rw (history-accepted z (startHelper t p q) e) (getD-set-other (historyOf ls .rows) q u (threadRow (historyOf ls) t) [] n)
+
+    -- an area has as many entries more as it has on the starter's row
+    pub entries-received : q < length (historyOf ls .rows) → threadRow (historyOf ls) q ≡ [] → (a : ℕ)
+        → total a (historyOf (l ∷ ls) .rows) ≡ total a (historyOf ls .rows) + occurrences a (threadRow (historyOf ls) t)
+    unfolding historyThread
+    entries-received h n a = rw (history-accepted z (startHelper t p q) e)
+        (omega (arith, total-set a (historyOf ls .rows) q (threadRow (historyOf ls) t) h, ap (occurrences a) n, occ-nil a))
+
+    -- and its kind is p
+    pub kind-received : historyOf (l ∷ ls) .kinds q ≡ p
+    unfolding historyThread
+    kind-received = rw (history-accepted z (startHelper t p q) e) (put-same (historyOf ls .kinds) q p)

@@ -14,10 +14,10 @@ use Rattle.rights.specs.Rights.{Loadable}
 use Rattle.rights.specs.declared.Right.the-variants.{Use}
 use Rattle.model.specs.State.{State, Memory, areaAt, threadAt, stackAt, current, isOpen, displayAt, displayHolds, storeOf, wordAt}
 use Rattle.model.specs.Checks.{isStarted, live}
-use Rattle.model.specs.Calls.{enter, exit, allocate, load, read, loadRights}
+use Rattle.model.specs.Calls.{enter, exit, startHelper, allocate, load, read, loadRights}
 use Rattle.model.specs.Run.{Element, Line, World, run}
 use Rattle.model.specs.History.{Object, History, startedIn, threadRow, occurrences, total, historyOf}
-use Rattle.model.specs.Values.{readStatus, readValue, entryGeneration, entriesLeft, loadAnswer, tableAfter, mayIn}
+use Rattle.model.specs.Values.{readStatus, readValue, entryGeneration, entriesLeft, loadAnswer, tableAfter, mayIn, helperAnswer}
 
 -- ---- the words of the claims
 
@@ -112,6 +112,8 @@ pub record Claims (w : World) (b : History) : Type 0 where
   pub stacks : (t : ℕ) → stackAt (w .state) t ≡ threadRow b t
   pub opens : (a : ℕ) → 2 ≤ a → (isOpen (w .state) a ≡ true) ↔ Open b a
   pub parents : (a : ℕ) → areaAt (w .state) a .parent ≡ b .parents a
+  -- a scope's "count of entries" is how many entries it has on all rows, those that a helper received from its starter among them
+  pub counts : (a : ℕ) → 2 ≤ a → areaAt (w .state) a .count ≡ total a (b .rows)
   -- "Each open scope has a display: the row of its ancestors, outermost first, itself last." One that is not open has none.
   pub displays : (a : ℕ) → Open b a → Walk (b .parents) a (displayAt (w .state) a)
   pub dropped : (a : ℕ) → isOpen (w .state) a ≡ false → displayAt (w .state) a ≡ []
@@ -167,3 +169,6 @@ pub record Claims (w : World) (b : History) : Type 0 where
   -- A load answers by its text and the lines before: where any thread is started, it is refused, so no started thread's rights change.
   pub reloads : (l : Line) (before : List Line) → Follows l before (w .trace) → (text : List ℕ) → l .call ≡ loadRights text
       → l .reply .status ≡ loadAnswer (historyOf before) text
+  -- 10. The start of a helper answers by the lines before: so none has a kind that may not enter each area of its starter's row, by the table in force.
+  pub helpers : (l : Line) (before : List Line) → Follows l before (w .trace) → (t p q : ℕ) → l .call ≡ startHelper t p q
+      → l .reply .status ≢ 1 → l .reply .status ≡ helperAnswer before t p q

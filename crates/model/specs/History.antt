@@ -8,7 +8,7 @@ use lib.ListN.{getD, set, replicate}
 use Rattle.layout.specs.Choice.{pick}
 use Rattle.layout.specs.Handle.{null}
 use Rattle.model.specs.State.{current, innermost, isScope}
-use Rattle.model.specs.Calls.{Call, start, end, make, enter, exit, allocate, store, write, asks, configure}
+use Rattle.model.specs.Calls.{Call, start, end, make, enter, exit, startHelper, allocate, store, write, asks, configure}
 use Rattle.model.specs.Run.{Line}
 
 -- an object made: its handle, its slots and its data words
@@ -72,17 +72,25 @@ handles os = map (λ (o : Object). o .handle) os
 abbrev pub isScopeOnNone : ℕ → List (List ℕ) → Bool
 isScopeOnNone q rows = isScope q && eqb (total q rows) 0
 
--- "01 gives the thread an empty row, 02 takes it away": its kind then, 0 for 02
-unfoldable pub historyStart : History → ℕ → ℕ → History
-historyStart b t kind = record {
+-- a thread has a kind, 0 for none, and a row
+unfoldable pub historyThread : History → ℕ → ℕ → List ℕ → History
+historyThread b t kind row = record {
   kinds = putAt (b .kinds) t kind;
-  rows = set (b .rows) t [];
+  rows = set (b .rows) t row;
   parents = b .parents;
   objects = b .objects;
   gone = b .gone;
   stored = b .stored;
   written = b .written;
 }
+
+-- "01 gives the thread an empty row, 02 takes it away": its kind then, 0 for 02
+abbrev pub historyStart : History → ℕ → ℕ → History
+historyStart b t kind = historyThread b t kind []
+
+-- 0b by thread t: "The new thread receives the same entries", so the row of thread q becomes a copy of the starter's
+abbrev pub historyHelper : History → ℕ → ℕ → ℕ → History
+historyHelper b t kind q = historyThread b q kind (threadRow b t)
 
 -- "04: where q is a scope on no row, its parent becomes the innermost scope of the thread's row, or none. Then q goes on top of that row."
 unfoldable pub historyEnter : History → ℕ → ℕ → History
@@ -157,6 +165,7 @@ historyStep b (end t) v = historyStart b t 0
 historyStep b (make t q r) v = b
 historyStep b (enter t q) v = historyEnter b t q
 historyStep b (exit t) v = historyExit b t
+historyStep b (startHelper t p q) v = historyHelper b t p q
 historyStep b (allocate t q r) v = historyAllocate b t (record { handle = v; slots = q; dataWords = r })
 historyStep b (store t p q r) v = historyStore b p q r
 historyStep b (write t p q r) v = historyWrite b p q r

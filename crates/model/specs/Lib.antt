@@ -4,6 +4,7 @@ pub mod SetUp
 pub mod Checks
 pub mod Threads
 pub mod Scopes
+pub mod Helpers
 pub mod Objects
 pub mod References
 pub mod Data

@@ -11,9 +11,14 @@ use Rattle.model.specs.Checks.{isStarted, called, Change}
 abbrev pub isKind : ℕ → Bool
 isKind p = ltb 0 p && ltb p 4
 
--- op 01, refusals 2, 3, 4 after 1: "op 01: above 15 only", "3: thread started and not ended", "4: kind not 1, 2 or 3"
-unfoldable pub startRest : State → ℕ → ℕ → ℕ
-startRest s t p = refuse (leb 16 t) 2 (refuse (isStarted s t) 3 (refuse (not (isKind p)) 4 0))
+-- refusals 2, 3, 4 of a thread that is to start with kind p: "op 01: above 15 only", "3: thread started and not ended", "4: kind not 1, 2 or 3";
+-- then the rest
+unfoldable pub startable : State → ℕ → ℕ → ℕ → ℕ
+startable s t p rest = refuse (leb 16 t) 2 (refuse (isStarted s t) 3 (refuse (not (isKind p)) 4 rest))
+
+-- op 01, refusals 2, 3, 4 after 1
+abbrev pub startRest : State → ℕ → ℕ → ℕ
+startRest s t p = startable s t p 0
 
 -- op 01, "start thread (p kind)": it has that kind; its stack is empty, as that of every thread that is not started
 unfoldable pub startState : State → ℕ → ℕ → State

@@ -1,16 +1,18 @@
 -- What the lines so far say of an answer to come: what a read answers, the generation that an entry gives, the entries that an exit leaves; what
--- a load of rights answers, which rights table is in force, and which rights a thread has by it.
+-- a load of rights and the start of a helper answer, which rights table is in force, and which rights a thread has by it.
 -- Assumes nothing.
 use Prim.Native.Nat.{ℕ, zero, suc}
 use mathlib.Core.Bool.{Bool, not, _&&_}
 use mathlib.Core.List.{List, [], _∷_}
-use lib.Dec.{eqb}
+use lib.Dec.{eqb, leb}
 use Rattle.layout.specs.Choice.{pick, refuse}
 use Rattle.layout.specs.Below.{someBelow}
 use Rattle.rights.specs.Rights.{builtIn, classOf, allows, isTable}
 use Rattle.rights.specs.declared.Right.{Right}
 use Rattle.model.specs.State.{current, isScope}
-use Rattle.model.specs.Calls.{Call, start, end, make, enter, exit, allocate, store, write, asks, Configuration, rightsTable, configure}
+use Rattle.model.specs.Threads.{isKind}
+use Rattle.model.specs.Helpers.{mayEnterAll}
+use Rattle.model.specs.Calls.{Call, start, end, make, enter, exit, startHelper, allocate, store, write, asks, Configuration, rightsTable, configure}
 use Rattle.model.specs.Run.{Line}
 use Rattle.model.specs.History.{History, startedIn, threadRow, total, isScopeOnNone, historyExit, historyOf}
 
@@ -35,6 +37,7 @@ openingStep b a g (end t) v = g
 openingStep b a g (make t q r) v = g
 openingStep b a g (enter t q) v = pick (isScopeOnNone q (b .rows) && eqb q a) v g
 openingStep b a g (exit t) v = g
+openingStep b a g (startHelper t p q) v = g
 openingStep b a g (allocate t q r) v = g
 openingStep b a g (store t p q r) v = g
 openingStep b a g (write t p q r) v = g
@@ -81,6 +84,7 @@ tableStep table (end t) = table
 tableStep table (make t q r) = table
 tableStep table (enter t q) = table
 tableStep table (exit t) = table
+tableStep table (startHelper t p q) = table
 tableStep table (allocate t q r) = table
 tableStep table (store t p q r) = table
 tableStep table (write t p q r) = table
@@ -99,3 +103,16 @@ tableAfter (l ∷ ls) = tableLine (tableAfter ls) l
 -- whether a thread has a right in area a, by the lines: the kind that it was started with, and the table in force
 unfoldable pub mayIn : List Line → ℕ → Right → ℕ → Bool
 mayIn ls t right a = allows (tableAfter ls) (historyOf ls .kinds t) (classOf a) right
+
+-- ---- op 0b
+
+-- what a start of a helper answers after the lines, where 1 does not refuse it: "2 (starter as in the table, then new number, above 15 only), 3 (new
+-- number), 4, then 5 if the kind lacks E for any entry" of the starter's row, by the table in force
+unfoldable pub helperAnswer : List Line → ℕ → ℕ → ℕ → ℕ
+helperAnswer ls t p q =
+    refuse (leb 16 t) 2
+    (refuse (not (startedIn (historyOf ls) t)) 2
+    (refuse (leb 16 q) 2
+    (refuse (startedIn (historyOf ls) q) 3
+    (refuse (not (isKind p)) 4
+    (refuse (not (mayEnterAll (tableAfter ls) p (threadRow (historyOf ls) t))) 5 0)))))

@@ -27,6 +27,7 @@ pub enum StateOp {
     Make,
     Enter,
     Exit,
+    StartHelper,
 }
 
 // The ops that write lent words.
@@ -42,7 +43,7 @@ pub enum QuestionOp {
     Read,
 }
 
-// The ops, 01 to 0a, by what they may touch.
+// The ops, 01 to 0b, by what they may touch.
 pub enum Op {
     State(StateOp),
     Memory(MemoryOp),

@@ -30,5 +30,16 @@ pub fn carry_state(
         StateOp::Make => areas::make::make(words, bytes, permanent, scratch, map, written, t, q, r),
         StateOp::Enter => entry::enter(words, bytes, permanent, scratch, map, written, t, q),
         StateOp::Exit => exit::exit(words, bytes, permanent, scratch, map, written, t),
+        StateOp::StartHelper => helpers::start_helper(
+            words,
+            bytes,
+            permanent,
+            scratch,
+            map,
+            written,
+            t,
+            p,
+            q,
+        ),
     }
 }

@@ -136,6 +136,12 @@ entryRecord b t k = record { area = byteOf b t k; inner = byteOf b (innerRows + 
 abbrev pub putEntry : List ℕ → ℕ → ℕ → Entry → List ℕ
 putEntry b t k x = putByte (putByte b t k (x .area)) (innerRows + t) k (x .inner)
 
+-- the whole stack of thread t becomes that of thread q: its entries, and the innermost scopes beside them
+abbrev pub copyStack : List ℕ → ℕ → ℕ → List ℕ
+copyStack b t q =
+    let c : List ℕ = putByteRow b q (byteRow b t) in
+    putByteRow c (innerRows + q) (byteRow c (innerRows + t))
+
 unfoldable pub threadOf : List ℕ → List ℕ → ℕ → Thread
 threadOf w b t = record { kind = threadRecord w t .kind; len = threadRecord w t .len; entries = byteRow b t; inner = byteRow b (innerRows + t) }
 

@@ -19,7 +19,7 @@ use Rattle.tables.specs.declared.ThreadWords.{ThreadWords}
 use Rattle.tables.specs.declared.Entry.{Entry}
 use Rattle.tables.specs.Cut.{cut, put, each, from, getD-cut, length-cut, length-put, cut-put, cut-put-other, getD-put-other, cut-set, cut-set-other, each-at, each-set, each-same}
 use Rattle.tables.specs.Decode.{areaCount, threadCount, areaWords, areaIndex, threadsAt, threadWords, threadIndex, lengthsAt, takenAt, wordCount, rowBytes, rowIndex, innerRows, displayRows, rowCount, rightsAt, byteCount}
-use Rattle.tables.specs.Decode.{areaRecord, spareOf, putArea, lengthsRecord, putLengths, takenOf, putTaken, byteRow, putByteRow, byteOf, putByte, threadRecord, putThread, entryRecord, putEntry, threadOf, displayRow, putRow, rightsOf, rightOf, putRights, stateOf, Shaped, Holds}
+use Rattle.tables.specs.Decode.{areaRecord, spareOf, putArea, lengthsRecord, putLengths, takenOf, putTaken, byteRow, putByteRow, byteOf, putByte, threadRecord, putThread, entryRecord, putEntry, copyStack, threadOf, displayRow, putRow, rightsOf, rightOf, putRights, stateOf, Shaped, Holds}
 
 -- ---- the records of a table's state
 
@@ -27,9 +27,13 @@ pub byte-read : (b : List ℕ) (n k : ℕ) → k < rowBytes → getD (byteRow b 
 unfolding byteRow
 byte-read b n k h = getD-cut b (rowIndex n) rowBytes k h
 
+length-byte-row : (b : List ℕ) (n : ℕ) → length (byteRow b n) ≡ rowBytes
+unfolding byteRow
+length-byte-row b n = length-cut b (rowIndex n) rowBytes
+
 pub length-row : (b : List ℕ) (a : ℕ) → length (displayRow b a) ≡ rowBytes
-unfolding displayRow byteRow
-length-row b a = length-cut b (rowIndex (displayRows + a)) rowBytes
+unfolding displayRow
+length-row b a = length-byte-row b (displayRows + a)
 
 module _ (w b : List ℕ) where
   pub area-read : (a : ℕ) → a < areaCount → areaAt (stateOf w b) a ≡ areaRecord w a
@@ -296,6 +300,30 @@ module _ (w b : List ℕ) where
           q .here,
           p .others (innerRows + t) (λ e. omega arith),
         ) refl;
+        words = words-kept t x lt (z .words);
+        rows = λ m e f. q .others m f ∙ p .others m e;
+        rights = q .rights ∙ p .rights;
+        long = simp length-set (z .words);
+        wide = q .long;
+      }))
+
+  -- or it gets the whole stack of thread u
+  pub state-copy : (u t : ℕ) (x : ThreadWords) → u < threadCount → t < threadCount → Shaped w b
+      → Holds (putThread w t x) (copyStack b u t)
+      (withThread (stateOf w b) t (record {
+        kind = x .kind;
+        len = x .len;
+        entries = threadAt (stateOf w b) u .entries;
+        inner = threadAt (stateOf w b) u .inner;
+      }))
+  unfolding threadOf
+  state-copy u t x lu lt z =
+      let c : List ℕ = putByteRow b t (byteRow b u) in
+      let p : RowWritten b c t (byteRow b u) = row-written b (z .bytes) t (omega arith) (byteRow b u) (length-byte-row b u) in
+      let q : RowWritten c (copyStack b u t) (innerRows + t) (byteRow c (innerRows + u))
+      = row-written c (p .long) (innerRows + t) (omega arith) (byteRow c (innerRows + u)) (length-byte-row c (innerRows + u)) in
+      rw (thread-read w b u lu) (thread-laid (putThread w t x) (copyStack b u t) t _ lt z (record {
+        here = rw (kind-written t x lt (z .words), len-written t x lt (z .words), q .others t (λ e. omega arith), p .here, q .here, p .others (innerRows + u) (λ e. omega arith)) refl;
         words = words-kept t x lt (z .words);
         rows = λ m e f. q .others m f ∙ p .others m e;
         rights = q .rights ∙ p .rights;

@@ -1,15 +1,17 @@
 -- Ops 01 and 02: one law for each way that their checks end, and what they leave.
 -- Assumes nothing.
+use mathlib.Core.Bool.{not}
 use mathlib.Core.Path.{_≡_, refl, sym, _∙_}
 use mathlib.Core.Logic.{_≢_}
 use mathlib.Core.List.{List}
 use Prim.Native.Nat.{ℕ, _≤_, _<_}
 use native.Mathlib.Omega.{arith}
+use lib.Dec.{leb}
 use borrow.Author.Tests.{le-leb, lt-leb, lt-ltb, le-ltb}
-use Rattle.layout.specs.Choice.{refuse, hit, skip}
+use Rattle.layout.specs.Choice.{refuse, refuse-first, hit, skip, peel}
 use Rattle.model.specs.State.{State, threadAt, withKind, withThread}
-use Rattle.model.specs.Checks.{called}
-use Rattle.model.specs.Threads.{startRest, startState, startChange, endRest, endState, endChange}
+use Rattle.model.specs.Checks.{isStarted, called}
+use Rattle.model.specs.Threads.{isKind, startable, startRest, startState, startChange, endRest, endState, endChange}
 use Rattle.model.proofs.Accepted.{Called, start-ok, end-ok}
 use Rattle.model.proofs.KeepsThreads.{good-start, good-end}
 use Rattle.tables.specs.declared.ThreadWords.{ThreadWords}
@@ -23,28 +25,46 @@ use Rattle.callers.specs.Caller.{thread-refused, called-rest}
 
 module _ (s : State) (t p : ℕ) where
   pub start-no-thread : 16 ≤ t → 2 ≡ startRest s t p
-  unfolding startRest refuse
+  unfolding startable refuse
   start-no-thread h = rw (le-leb 16 t h)
 
   module _ (h : t < 16) where
     pub start-started : threadAt s t .kind ≢ 0 → 3 ≡ startRest s t p
-    unfolding startRest refuse
+    unfolding startable refuse
     start-started k = let z : threadAt s t .kind ≡ 0 → ⊥ = k in rw (lt-leb 16 t h, lt-ltb 0 (threadAt s t .kind) (omega arith))
 
     module _ (k : threadAt s t .kind ≡ 0) where
       pub start-no-kind : p ≡ 0 → 4 ≡ startRest s t p
-      unfolding startRest refuse
+      unfolding startable refuse
       start-no-kind z = rw (lt-leb 16 t h, le-ltb 0 (threadAt s t .kind) (omega arith), le-ltb 0 p (omega arith))
 
       pub start-other-kind : p ≢ 0 → 3 < p → 4 ≡ startRest s t p
-      unfolding startRest refuse
+      unfolding startable refuse
       start-other-kind z l = rw (lt-leb 16 t h, le-ltb 0 (threadAt s t .kind) (omega arith), lt-ltb 0 p (omega arith), le-ltb p 4 (omega arith))
 
       pub start-accepted : p ≢ 0 → p ≤ 3 → 0 ≡ startRest s t p
-      unfolding startRest refuse
+      unfolding startable refuse
       start-accepted z l =
           let n : p ≡ 0 → ⊥ = z in
           rw (lt-leb 16 t h, le-ltb 0 (threadAt s t .kind) (omega arith), lt-ltb 0 p (omega arith), lt-ltb p 4 (omega arith))
+
+-- ---- after 2, 3 and 4 of a thread that is to start: n is what check_start answers
+
+module _ (s : State) (t p : ℕ) {n : ℕ} (e : n ≡ startable s t p 0) where
+  -- where it refuses, nothing else counts
+  pub start-refused : n ≢ 0 → (rest : ℕ) → n ≡ startable s t p rest
+  unfolding startable
+  start-refused h rest =
+      e ∙ refuse-first (leb 16 t) 2 (refuse-first (isStarted s t) 3 (refuse-first (not (isKind p)) 4 (λ z. absurd (z refl)))) (λ z. h (e ∙ z))
+
+  -- where it does not, the rest of the refusals counts
+  pub start-passed : n ≡ 0 → (rest : ℕ) → startable s t p rest ≡ rest
+  unfolding startable
+  start-passed z rest =
+      let b = peel _ _ _ (sym e ∙ z) in
+      let c = peel _ _ _ (b .1) in
+      let d = peel _ _ _ (c .1) in
+      skip _ 2 _ (b .0) ∙ skip _ 3 _ (c .0) ∙ skip _ 4 rest (d .0)
 
 -- ---- op 02
 

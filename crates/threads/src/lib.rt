@@ -6,7 +6,7 @@ use tables::Words;
 ghost use mathlib.Core.Path.{_≡_};
 ghost use Prim.Native.Nat.{_<_};
 ghost use Rattle.model.specs.State.{threadAt, withKind, withThread};
-ghost use Rattle.model.specs.Threads.{startRest, startChange, endRest, endChange};
+ghost use Rattle.model.specs.Threads.{startable, startChange, endRest, endChange};
 ghost use Rattle.model.specs.Calls as calls;
 ghost use Rattle.tables.specs.Decode.{Shaped};
 ghost use Rattle.tables.specs.Contract.{before, Leaves, Usable, Changes, Answers};
@@ -22,8 +22,9 @@ fn put_kind(words: &mut Words, bytes: &Bytes, t: usize, kind: u64)
 
 // ---- op 01, start thread
 
-fn check_start(words: &Words, bytes: &Bytes, t: u64, kind: u64) -> u64
-    ensures { λ r. ⌜ r ≡ startRest (before words bytes) t kind ⌝ }
+// Refusals 2, 3 and 4 of a thread that is to start.
+pub fn check_start(words: &Words, bytes: &Bytes, t: u64, kind: u64) -> u64
+    ensures { λ r. ⌜ r ≡ startable (before words bytes) t kind 0 ⌝ }
 {
     if 16 <= t {
         return 2;

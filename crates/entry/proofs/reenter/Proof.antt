@@ -16,8 +16,8 @@ push-requires c κs =
     let o = c .before .before in
     (o .pre .0, o .pre .1 .thread, o .pre .1 .room)
 
-reentered-area-requires : tie.Need-reentered-area-requires
-reentered-area-requires c κs =
+reentered-requires : tie.Need-reentered-requires
+reentered-requires c κs =
     let x = c .before in
     let m = x .before .before in
     let o = start m in
@@ -32,9 +32,9 @@ returns c =
     let m = x .before .before in
     let o = start m in
     let a = o .args in (
-      value-open (now (a .words)) (now (a .bytes)) (a .t) (a .q) (o .pre .1) (o .pre .2) (m .push .ensures) _ (x .area-at .ensures) (o .pre .3) (y .reentered-area .ensures),
+      value-open (now (a .words)) (now (a .bytes)) (a .t) (a .q) (o .pre .1) (o .pre .2) (m .push .ensures) _ (x .area-at .ensures) (o .pre .3) (y .reentered .ensures),
       rw (c .put-area .ensures)
-          (open-holds (now (a .words)) (now (a .bytes)) (a .t) (a .q) (o .pre .1) (o .pre .2) (m .push .ensures) _ (x .area-at .ensures) (o .pre .3) (y .reentered-area .ensures)),
+          (open-holds (now (a .words)) (now (a .bytes)) (a .t) (a .q) (o .pre .1) (o .pre .2) (m .push .ensures) _ (x .area-at .ensures) (o .pre .3) (y .reentered .ensures)),
     )
 
 pub reenter-spec : {M : Type 1} → statement M
@@ -45,6 +45,6 @@ reenter-spec =
     (λ c. search needs)
     push-requires
     (λ c κs. start (c .before) .pre .1 .area)
-    reentered-area-requires
+    reentered-requires
     (λ c κs. search needs)
     returns)

@@ -18,6 +18,9 @@ returns-4 c = rw (c .before .before .before .enum-told4 .given .1) (c .enter .en
 returns-5 : tie.Need-returns-5
 returns-5 c = rw (c .before .before .before .enum-told5 .given .1) (c .exit .ensures)
 
+returns-6 : tie.Need-returns-6
+returns-6 c = rw (c .before .before .before .enum-told6 .given .1) (c .start-helper .ensures)
+
 pub carry-state-spec : {M : Type 1} → statement M
 carry-state-spec =
     tie.close
@@ -27,4 +30,5 @@ carry-state-spec =
     (λ c. search needs) (λ c κs. search needs)
     (λ c. search needs) (λ c κs. search needs)
     (λ c. search needs) (λ c κs. search needs)
-    returns returns-2 returns-3 returns-4 returns-5)
+    (λ c. search needs) (λ c κs. search needs)
+    returns returns-2 returns-3 returns-4 returns-5 returns-6)

@@ -1,0 +1,2 @@
+-- The laws of op 0b.
+pub mod Helper
