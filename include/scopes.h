@@ -9,11 +9,12 @@
  * the specification defines (document 01, and of document 02 the requests that have landed); a refused call changes nothing;
  * no call touches memory outside what it is lent; every call ends (the contract `Answers` of each function). Over every list
  * of calls, by any threads and under any rights that are loaded, of the tables and buffers that the host then holds: a
- * thread in a scope stands in all its ancestors; no reference outlives its object; a dead handle is never accepted again;
- * and a read of a live handle, by a thread with right U, at an index below the object's data words gives the last word
- * accepted for that handle and index, or SCOPES_UNWRITTEN if there is none since the object was made (the theorem
- * `served-claims`, crates/served). Not covered: the compiler's back end, the few lines of C below, and a host that breaks
- * these rules.
+ * thread in a scope stands in all its ancestors, whether it entered them or was started there as a helper and never called
+ * enter; a scope's count is the number of its entries on all stacks; no reference outlives its object; a dead handle is
+ * never accepted again; and a read of a live handle, by a thread with right U, at an index below the object's data words
+ * gives the last word accepted for that handle and index, or SCOPES_UNWRITTEN if there is none since the object was made
+ * (the theorem `served-claims`, crates/served). Not covered: the compiler's back end, the few lines of C below, and a host
+ * that breaks these rules.
  *
  * What the caller owes. A proof about these functions rests on it, and C cannot check it:
  *  - A state comes only from a set-up and from the calls made with it since. Never write into its words or bytes, never
@@ -36,9 +37,10 @@
  * memset apart (hosts/c/stack.c measures each). Without optimization a call over a handle has a frame of its own besides.
  * scopes_set_up gives its state by value: 7.5 KB more, the caller's own.
  *
- * Time. Constant, whatever the depth and the number of threads, areas and objects; an accepted allocation is linear in the
- * object's words. A set-up writes the 7.5 KB of its tables. A list of n calls, such as the frames of target/bin/frames, is
- * linear in n and the words that it allocates.
+ * Time. Constant, whatever the depth and the number of threads, areas and objects, but for two calls: an accepted
+ * allocation is linear in the object's words, and a start of a helper in its starter's entries, which are 32 at most. A
+ * set-up writes the 7.5 KB of its tables. A list of n calls, such as the frames of target/bin/frames, is linear in n and the
+ * words that it allocates.
  *
  * Interrupts. There is no lock, no errno, no memory of the functions' own, and no floating-point number; of the C library
  * they call memset and memcpy at most. So a call may be made from an interrupt or signal handler, if the code that was
@@ -94,8 +96,8 @@ extern "C" {
 
 /* ---- Version */
 
-/* Major * 1,000,000 + minor * 1,000 + patch: 0.3.0. */
-#define SCOPES_VERSION 3000u
+/* Major * 1,000,000 + minor * 1,000 + patch: 0.4.0. */
+#define SCOPES_VERSION 4000u
 
 /* The version of the archive, to compare with that of this header. */
 SCOPES_RESULT
@@ -138,10 +140,10 @@ typedef enum scopes_kind {
 typedef enum scopes_status {
     SCOPES_OK = 0,
     SCOPES_LENGTHS = 1,          /* the buffers' lengths are not those of set-up; set-up: they do not fit */
-    SCOPES_THREAD = 2,           /* thread above 15, or not started (start: above 15 only) */
-    SCOPES_STARTED = 3,          /* thread started and not ended */
+    SCOPES_THREAD = 2,           /* thread above 15, or not started (start, and the helper of start_helper: above 15 only) */
+    SCOPES_STARTED = 3,          /* thread (start_helper: the helper) started and not ended */
     SCOPES_KIND = 4,             /* kind not 1, 2 or 3 */
-    SCOPES_RIGHT = 5,            /* the thread's kind lacks the right, by the table in force */
+    SCOPES_RIGHT = 5,            /* the thread's kind (start_helper: the helper's) lacks the right, by the table in force */
     SCOPES_AREA = 6,             /* area above 63, or scope not made (make: outside 2 to 63) */
     SCOPES_MADE = 7,             /* scope already made */
     SCOPES_SIZE = 8,             /* size 0, or above the unused scratch words */
@@ -198,12 +200,13 @@ static inline const char *scopes_status_name(uint64_t status)
  * wrong.
  *
  *    1        none: a mistake of the host
- *    2        none: the caller is a started thread
+ *    2        none: the caller is a started thread, and one to be started has no number
  *    3        IllegalThreadStateException
  *    4        none: a thread's kind is its class
  *    5        U or R: MemoryAccessError, as for a no-heap thread that meets a heap reference
  *             E or A: InaccessibleAreaException is nearest, which the RTSJ has for an area that is not on the scope stack;
  *             where an ordinary thread enters a scope, IllegalThreadStateException
+ *             E of a helper: IllegalArgumentException is nearest, as for a NoHeapRealtimeThread that is given the heap
  *    6, 7     none: an area is an object
  *    8        size 0: IllegalArgumentException; no room: OutOfMemoryError
  *    9, 17    none; ResourceLimitError is nearest
@@ -218,12 +221,15 @@ static inline const char *scopes_status_name(uint64_t status)
  *   18, 23, 24   none
  *
  *   set-up          none: the machine's own start, after which HeapMemory.instance() and ImmortalMemory.instance() are there
- *   start           Thread.start of a Thread (kind 1), RealtimeThread (2) or NoHeapRealtimeThread (3); with an empty scope
- *                   stack, where the RTSJ's new thread can begin in the areas of its starter
+ *   start           Thread.start of a Thread (kind 1), RealtimeThread (2) or NoHeapRealtimeThread (3), with an empty scope
+ *                   stack, as by a starter that stands in no area
+ *   start_helper    the same by a starter in areas: the new thread inherits its scope stack as its initial one, and
+ *                   ScopedMemory.getReferenceCount() of each scope there rises
  *   end             the return of the thread's run()
  *   make            new LTMemory(size)
  *   enter           MemoryArea.enter(logic), up to logic.run(); of a scope ScopedMemory.enter
- *   exit            the return of that run(); the value is then ScopedMemory.getReferenceCount()
+ *   exit            the return of that run(), or of the thread's own where an entry is inherited; the value is then
+ *                   ScopedMemory.getReferenceCount()
  *   allocate        new, in the current allocation context; newInstance in another area has no call
  *   store           putfield or aastore of a reference
  *   load            getfield or aaload of a reference
@@ -354,6 +360,20 @@ scopes_answer scopes_start(
     const uint64_t *written, size_t written_len,
     uint64_t thread, uint64_t kind);
 
+/* Starts a helper: a thread of a kind that begins with the entries of its starter, which makes the call. It then stands in
+ * the same areas without having entered them, and the count of each scope rises by 1 for each entry. It leaves them and
+ * ends like any thread, before or after its starter. Refusals 1, 2 (starter), 2 (helper above 15), 3 (helper), 4, 5 (the
+ * helper's kind lacks E for any entry; where there is none, no right is asked for). 9 does not come: the starter's stack
+ * may be full. Value 0. */
+SCOPES_RESULT SCOPES_NONNULL(1, 2)
+scopes_answer scopes_start_helper(
+    uint64_t words[SCOPES_STATE_WORDS], uint8_t bytes[SCOPES_STATE_BYTES],
+    const uint64_t *permanent, size_t permanent_len,
+    const uint64_t *scratch, size_t scratch_len,
+    const uint64_t *map, size_t map_len,
+    const uint64_t *written, size_t written_len,
+    uint64_t thread, uint64_t kind, uint64_t helper);
+
 /* Ends a thread. Refusals 1, 2, 11. Value 0. */
 SCOPES_RESULT SCOPES_NONNULL(1, 2)
 scopes_answer scopes_end(
@@ -483,9 +503,9 @@ static inline scopes_span scopes_view_span(scopes_view view, const uint64_t *per
 
 /* Puts a rights table of the host's own in force, until the next load. The text is 36 digits, no line feed behind them,
  * ordered by kind (1 to 3), class of areas (heap, immortal memory, scopes) and right (E, A, U, R); 1 where the kind has
- * the right: E to enter such an area, A to allocate in it, U to use an object of it, R to store or load a reference to
- * one. A is allowed only with U. target/bin/rights_table prints the digits (README.md, "Rights"). Objects made before the
- * load live on. Refusals 23, 24. Value 0. */
+ * the right: E to enter such an area or start there as a helper, A to allocate in it, U to use an object of it, R to store
+ * or load a reference to one. A is allowed only with U. target/bin/rights_table prints the digits (README.md, "Rights").
+ * Objects made before the load live on. Refusals 23, 24. Value 0. */
 SCOPES_RESULT SCOPES_NONNULL(1, 2)
 scopes_answer scopes_load_rights(
     const uint64_t words[SCOPES_STATE_WORDS], uint8_t bytes[SCOPES_STATE_BYTES],
@@ -540,6 +560,12 @@ SCOPES_RESULT SCOPES_NONNULL(1)
 static inline scopes_answer scopes_core_start(scopes_core *core, uint64_t thread, uint64_t kind)
 {
     return scopes_start(SCOPES_PARTS(core), thread, kind);
+}
+
+SCOPES_RESULT SCOPES_NONNULL(1)
+static inline scopes_answer scopes_core_start_helper(scopes_core *core, uint64_t thread, uint64_t kind, uint64_t helper)
+{
+    return scopes_start_helper(SCOPES_PARTS(core), thread, kind, helper);
 }
 
 SCOPES_RESULT SCOPES_NONNULL(1)

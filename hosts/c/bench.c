@@ -1,6 +1,6 @@
 /* A measuring bench in C: calls by its threads, in orders that broke earlier versions of the core, with what the core
- * answers. A helper leaves a parent while its child is open; a plotter keeps a reference into a sample that is emptied. At
- * the end the bench loads a rights table of its own. */
+ * answers. A helper leaves a parent while its child is open; a plotter keeps a reference into a sample that is emptied; a
+ * driver starts its plotter inside a sample, and leaves before it. At the end the bench loads a rights table of its own. */
 #include <inttypes.h>
 #include <stdio.h>
 #include <string.h>
@@ -11,7 +11,7 @@ enum { HEAP_WORDS = 64, IMMORTAL_WORDS = 64, PERMANENT_WORDS = HEAP_WORDS + IMMO
 enum { MAP_WORDS = SCOPES_MAP_WORDS(PERMANENT_WORDS, SCRATCH_WORDS) };
 
 /* The threads of this bench and its scopes. */
-enum { METER = 0, HELPER = 1, PLOTTER = 2, CLERK = 3 };
+enum { METER = 0, HELPER = 1, PLOTTER = 2, CLERK = 3, DRIVER = 4 };
 enum { RUN = 2, SAMPLE = 3 };
 
 /* The memory that this host lends, and its core. */
@@ -130,6 +130,34 @@ static void another_nesting(void)
     show("plotter ends", scopes_core_end(&core, PLOTTER));
 }
 
+/* The plotter begins with the driver's entries, and works on alone in a run and a sample that it never entered. */
+static void plotter_born_in_sample(void)
+{
+    title("A driver starts its plotter inside a sample");
+    show("driver starts, real-time", scopes_core_start(&core, DRIVER, SCOPES_REAL_TIME));
+    show("driver enters run", scopes_core_enter(&core, DRIVER, RUN));
+    uint64_t limits = show("driver allocates limits in run, 1 data word", scopes_core_allocate(&core, DRIVER, 0, 1));
+    show("driver writes 70 into limits", scopes_core_write(&core, DRIVER, limits, 0, 70));
+    show("driver enters sample under run", scopes_core_enter(&core, DRIVER, SAMPLE));
+    show("driver enters the heap", scopes_core_enter(&core, DRIVER, SCOPES_HEAP));
+    show("driver starts the plotter there, no-heap", scopes_core_start_helper(&core, DRIVER, SCOPES_NO_HEAP, PLOTTER));
+    show("driver leaves the heap", scopes_core_exit(&core, DRIVER));
+    show("driver starts the plotter in sample, no-heap", scopes_core_start_helper(&core, DRIVER, SCOPES_NO_HEAP, PLOTTER));
+    show("driver starts the plotter again", scopes_core_start_helper(&core, DRIVER, SCOPES_NO_HEAP, PLOTTER));
+    uint64_t curve = show("plotter allocates curve in sample, 1 slot", scopes_core_allocate(&core, PLOTTER, 1, 0));
+    show("plotter stores limits in curve", scopes_core_store(&core, PLOTTER, curve, 0, limits));
+    show("driver leaves sample, the plotter stays", scopes_core_exit(&core, DRIVER));
+    show("driver leaves run, the plotter stays", scopes_core_exit(&core, DRIVER));
+    show("driver ends", scopes_core_end(&core, DRIVER));
+    show("plotter loads limits from curve", scopes_core_load(&core, PLOTTER, curve, 0));
+    show("plotter reads limits", scopes_core_read(&core, PLOTTER, limits, 0));
+    show("plotter ends in sample", scopes_core_end(&core, PLOTTER));
+    show("plotter leaves sample, the last one", scopes_core_exit(&core, PLOTTER));
+    show("plotter leaves run, the last one", scopes_core_exit(&core, PLOTTER));
+    show("plotter reads limits", scopes_core_read(&core, PLOTTER, limits, 0));
+    show("plotter ends", scopes_core_end(&core, PLOTTER));
+}
+
 /* A stack that the scheduler holds by itself, and a call that is lent too little. */
 static void beside_the_calls(void)
 {
@@ -179,6 +207,7 @@ int main(void)
     parent_left_under_child();
     reference_into_emptied_sample();
     another_nesting();
+    plotter_born_in_sample();
     beside_the_calls();
     rights_of_its_own();
     return 0;

@@ -5,7 +5,7 @@
 #include "check.h"
 
 enum { HEAP = 32, IMMORTAL = 32, PERMANENT = HEAP + IMMORTAL, SCRATCH = 64, MAP = SCOPES_MAP_WORDS(PERMANENT, SCRATCH) };
-enum { THREAD = 0, SCOPE = 2 };
+enum { THREAD = 0, HELPER = 1, SCOPE = 2 };
 
 /* The digits of the built-in rights table. */
 static const uint8_t digits[] = "111100110000" "111111111111" "000011111111";
@@ -53,6 +53,7 @@ static void every_call(void)
     outer = scopes_core_allocate(&core, THREAD, 1, 2).value;
     CHECK(outer == (uint64_t)1 << 20);
     CHECK(is_answer(scopes_core_enter(&core, THREAD, SCOPE), 1));
+    CHECK(is_answer(scopes_core_start_helper(&core, THREAD, SCOPES_NO_HEAP, HELPER), 0));
     inner = scopes_core_allocate(&core, THREAD, 2, 3).value;
     CHECK(is_answer(scopes_core_store(&core, THREAD, inner, 1, outer), 0));
     CHECK(is_answer(scopes_core_load(&core, THREAD, inner, 1), outer));
@@ -60,8 +61,11 @@ static void every_call(void)
     CHECK(is_answer(scopes_core_read(&core, THREAD, inner, 2), 43));
     check_view(outer, permanent + 2, 2);
     check_view(inner, scratch + 3, 3);
-    CHECK(is_answer(scopes_core_exit(&core, THREAD), 0));
+    CHECK(is_answer(scopes_core_exit(&core, THREAD), 1));
+    check_view(inner, scratch + 3, 3);
+    CHECK(is_answer(scopes_core_exit(&core, HELPER), 0));
     check_refused_view(inner);
+    CHECK(is_answer(scopes_core_end(&core, HELPER), 0));
     CHECK(is_answer(scopes_core_end(&core, THREAD), 0));
 }
 
@@ -114,6 +118,8 @@ static void null_buffers(void)
     CHECK(is_answer(scopes_core_start(&core, THREAD, SCOPES_REAL_TIME), 0));
     CHECK_ANSWER(scopes_core_make(&core, THREAD, SCOPE, 1), SCOPES_SIZE);
     CHECK(is_answer(scopes_core_enter(&core, THREAD, SCOPES_IMMORTAL), 1));
+    CHECK_ANSWER(scopes_core_start_helper(&core, THREAD, SCOPES_ORDINARY, HELPER), SCOPES_RIGHT);
+    CHECK(is_answer(scopes_core_start_helper(&core, THREAD, SCOPES_NO_HEAP, HELPER), 0));
     CHECK_ANSWER(scopes_core_allocate(&core, THREAD, 0, 0), SCOPES_ROOM);
     CHECK_ANSWER(scopes_core_store(&core, THREAD, 1, 0, SCOPES_NULL), SCOPES_OBJECT);
     CHECK_ANSWER(scopes_core_load(&core, THREAD, 1, 0), SCOPES_OBJECT);

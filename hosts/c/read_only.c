@@ -8,7 +8,8 @@
 
 enum { HEAP = 32, IMMORTAL = 32, PERMANENT = HEAP + IMMORTAL, SCRATCH = 64, MAP = SCOPES_MAP_WORDS(PERMANENT, SCRATCH) };
 
-/* Threads by their kind, one in a scope under another, one whose stack is full, and one that is not started. */
+/* Threads by their kind, one in a scope under another above a heap entry, one whose stack is full of heap entries above a
+ * scope, and one that is not started. */
 enum { REAL_TIME, ORDINARY, NO_HEAP, NESTED, FULL, IDLE };
 enum { OUTER = 2, INNER = 3, UNMADE = 4 };
 
@@ -61,15 +62,13 @@ static void start_threads(void)
     CHECK_ANSWER(scopes_core_start(core, NO_HEAP, SCOPES_NO_HEAP), SCOPES_OK);
     CHECK_ANSWER(scopes_core_start(core, NESTED, SCOPES_REAL_TIME), SCOPES_OK);
     CHECK_ANSWER(scopes_core_start(core, FULL, SCOPES_REAL_TIME), SCOPES_OK);
-    for (unsigned i = 0; i < SCOPES_STACK_ENTRIES; i++) {
-        CHECK_ANSWER(scopes_core_enter(core, FULL, SCOPES_HEAP), SCOPES_OK);
-    }
 }
 
 static void make_objects(void)
 {
     CHECK_ANSWER(scopes_core_make(core, NESTED, OUTER, 16), SCOPES_OK);
     CHECK_ANSWER(scopes_core_make(core, NESTED, INNER, 16), SCOPES_OK);
+    CHECK_ANSWER(scopes_core_enter(core, NESTED, SCOPES_HEAP), SCOPES_OK);
     CHECK_ANSWER(scopes_core_enter(core, NESTED, OUTER), SCOPES_OK);
     dead = allocate(NESTED);
     CHECK_ANSWER(scopes_core_exit(core, NESTED), SCOPES_OK);
@@ -81,6 +80,14 @@ static void make_objects(void)
     CHECK_ANSWER(scopes_core_enter(core, REAL_TIME, SCOPES_IMMORTAL), SCOPES_OK);
     in_immortal = allocate(REAL_TIME);
     CHECK_ANSWER(scopes_core_exit(core, REAL_TIME), SCOPES_OK);
+}
+
+static void fill_stack(void)
+{
+    CHECK_ANSWER(scopes_core_enter(core, FULL, OUTER), SCOPES_OK);
+    for (unsigned i = 1; i < SCOPES_STACK_ENTRIES; i++) {
+        CHECK_ANSWER(scopes_core_enter(core, FULL, SCOPES_HEAP), SCOPES_OK);
+    }
 }
 
 /* Slot 0 of the inner object holds a heap object, slot 1 a word that is no live handle, which a host alone can write. */
@@ -110,6 +117,7 @@ static void begin(void)
     CHECK_STATUS(set_up(core, HEAP), SCOPES_OK);
     start_threads();
     make_objects();
+    fill_stack();
     fill_slots();
     write_data();
 }
@@ -121,6 +129,20 @@ static void refused_threads(void)
     CHECK_ANSWER(scopes_core_start(core, IDLE, 4), SCOPES_KIND);
     CHECK_ANSWER(scopes_core_end(core, IDLE), SCOPES_THREAD);
     CHECK_ANSWER(scopes_core_end(core, NESTED), SCOPES_ENTRIES);
+}
+
+/* A no-heap helper may stand in the scopes of its starter, but not in its heap entry, the lowest or the highest. */
+static void refused_helpers(void)
+{
+    CHECK_ANSWER(scopes_core_start_helper(core, SCOPES_THREADS, SCOPES_REAL_TIME, IDLE), SCOPES_THREAD);
+    CHECK_ANSWER(scopes_core_start_helper(core, IDLE, SCOPES_REAL_TIME, IDLE), SCOPES_THREAD);
+    CHECK_ANSWER(scopes_core_start_helper(core, NESTED, SCOPES_REAL_TIME, SCOPES_THREADS), SCOPES_THREAD);
+    CHECK_ANSWER(scopes_core_start_helper(core, NESTED, SCOPES_REAL_TIME, NESTED), SCOPES_STARTED);
+    CHECK_ANSWER(scopes_core_start_helper(core, NESTED, SCOPES_REAL_TIME, FULL), SCOPES_STARTED);
+    CHECK_ANSWER(scopes_core_start_helper(core, NESTED, 4, IDLE), SCOPES_KIND);
+    CHECK_ANSWER(scopes_core_start_helper(core, NESTED, SCOPES_ORDINARY, IDLE), SCOPES_RIGHT);
+    CHECK_ANSWER(scopes_core_start_helper(core, NESTED, SCOPES_NO_HEAP, IDLE), SCOPES_RIGHT);
+    CHECK_ANSWER(scopes_core_start_helper(core, FULL, SCOPES_NO_HEAP, IDLE), SCOPES_RIGHT);
 }
 
 static void refused_areas(void)
@@ -191,6 +213,7 @@ static void refused_loads(void)
 static void refused_lengths(void)
 {
     CHECK_ANSWER(scopes_core_start(core, IDLE, SCOPES_REAL_TIME), SCOPES_LENGTHS);
+    CHECK_ANSWER(scopes_core_start_helper(core, NESTED, SCOPES_REAL_TIME, IDLE), SCOPES_LENGTHS);
     CHECK_ANSWER(scopes_core_end(core, ORDINARY), SCOPES_LENGTHS);
     CHECK_ANSWER(scopes_core_make(core, NESTED, UNMADE, 1), SCOPES_LENGTHS);
     CHECK_ANSWER(scopes_core_enter(core, NESTED, SCOPES_HEAP), SCOPES_LENGTHS);
@@ -245,6 +268,7 @@ int main(void)
     begin();
     protect(PROT_READ);
     refused_threads();
+    refused_helpers();
     refused_areas();
     refused_references();
     refused_data();

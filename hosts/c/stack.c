@@ -30,6 +30,7 @@ static void set_up_in_place(void)
     status = scopes_core_set_up(&core, permanent, PERMANENT, scratch, SCRATCH, map, MAP, written, MAP, 32, 32);
 }
 static void start(void) { status = scopes_core_start(&core, 0, SCOPES_REAL_TIME).status; }
+static void start_helper(void) { status = scopes_core_start_helper(&core, 0, SCOPES_REAL_TIME, 1).status; }
 static void make(void) { status = scopes_core_make(&core, 0, 2, 128).status; }
 static void enter(void) { status = scopes_core_enter(&core, 0, 2).status; }
 static void allocate(void)
@@ -45,6 +46,7 @@ static void read_word(void) { status = scopes_core_read(&core, 0, object, 39).st
 static void view_status(void) { status = scopes_core_view_status(&core, 0, object).status; }
 static void view_place(void) { status = scopes_core_view_place(&core, 0, object).status; }
 static void leave(void) { status = scopes_core_exit(&core, 0).status; }
+static void leave_last(void) { status = scopes_core_exit(&core, 1).status; }
 static void end(void) { status = scopes_core_end(&core, 0).status; }
 static void load_rights(void)
 {
@@ -57,15 +59,16 @@ static void stack_pop(void) { status = scopes_stack_pop(&record).status; }
 
 /* Every call, in an order in which each is accepted. */
 static const struct { const char *name; void (*call)(void); } calls[] = {
-    {"version", version},         {"set_up_in_place", set_up_in_place},
-    {"start", start},             {"make", make},
-    {"enter", enter},             {"allocate", allocate},
-    {"store", store},             {"load", load},
-    {"write", write_word},        {"read", read_word},
-    {"view_status", view_status}, {"view_place", view_place},
-    {"exit", leave},              {"end", end},
-    {"load_rights", load_rights}, {"stack_empty", stack_empty},
-    {"stack_push", stack_push},   {"stack_pop", stack_pop},
+    {"version", version},           {"set_up_in_place", set_up_in_place},
+    {"load_rights", load_rights},   {"start", start},
+    {"make", make},                 {"enter", enter},
+    {"start_helper", start_helper}, {"allocate", allocate},
+    {"store", store},               {"load", load},
+    {"write", write_word},          {"read", read_word},
+    {"view_status", view_status},   {"view_place", view_place},
+    {"exit", leave},                {"exit, the last", leave_last},
+    {"end", end},                   {"stack_empty", stack_empty},
+    {"stack_push", stack_push},     {"stack_pop", stack_pop},
 };
 
 /* The function to be measured, and the painted bytes that it leaves, counted before anything else runs on that stack. */

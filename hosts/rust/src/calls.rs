@@ -69,9 +69,10 @@ impl<'m> Core<'m> {
     }
 
     /// Puts a rights table in force, until the next load: 36 digits, 0 or 1, ordered by kind, class
-    /// of areas (heap, immortal memory, scopes) and right (E to enter an area, A to allocate in it, U
-    /// to use an object of it, R to store or load a reference to one), A only with U. Before the
-    /// first load the built-in table is in force. Objects made before live on. Refusals 23, 24.
+    /// of areas (heap, immortal memory, scopes) and right (E to enter an area or start there as a
+    /// helper, A to allocate in it, U to use an object of it, R to store or load a reference to one), A
+    /// only with U. Before the first load the built-in table is in force. Objects made before live on.
+    /// Refusals 23, 24.
     ///
     /// ```
     /// # use scopes::{map_words, Area, Core, Kind, Refusal, Thread};
@@ -92,9 +93,40 @@ impl<'m> Core<'m> {
         value(record::load_rights(self, digits)).map(|_| ())
     }
 
-    /// Starts a thread. Refusals 2, 3.
+    /// Starts a thread, with no entries. Refusals 2, 3.
     pub fn start(&mut self, thread: Thread, kind: Kind) -> Result<(), Refusal> {
         let answer = record::start(self, thread.number(), kind as u64);
+        value(answer).map(|_| ())
+    }
+
+    /// Starts a helper: a thread of a kind that begins with the entries of its starter. The count of
+    /// each scope rises by 1 for each entry. The helper leaves them and ends like any thread, before or
+    /// after its starter. Refusals 2 (the starter; a helper above 15), 3 (the helper), 5 (the helper's
+    /// kind lacks E for any entry).
+    ///
+    /// ```
+    /// # use scopes::{map_words, Area, Core, Kind, Refusal, Thread};
+    /// # let (mut permanent, mut scratch) = ([0; 0], [0; 8]);
+    /// # let (mut map, mut written) = ([0; map_words(0, 8)], [0; map_words(0, 8)]);
+    /// # let mut core = Core::set_up(&mut permanent, &mut scratch, &mut map, &mut written, 0, 0)?;
+    /// # let (driver, plotter, sample) = (Thread::new(0), Thread::new(1), Area::new(2));
+    /// # core.start(driver, Kind::RealTime)?;
+    /// # core.make(driver, sample, 8)?;
+    /// core.enter(driver, sample)?;
+    /// core.start_helper(driver, Kind::NoHeap, plotter)?;
+    /// assert_eq!(core.exit(driver), Ok(1)); // the plotter stays, though it never entered
+    /// let curve = core.allocate(plotter, 0, 3)?;
+    /// assert_eq!(curve.area(), sample);
+    /// assert_eq!(core.exit(plotter), Ok(0));
+    /// # Ok::<(), Refusal>(())
+    /// ```
+    pub fn start_helper(
+        &mut self,
+        starter: Thread,
+        kind: Kind,
+        helper: Thread,
+    ) -> Result<(), Refusal> {
+        let answer = record::start_helper(self, starter.number(), kind as u64, helper.number());
         value(answer).map(|_| ())
     }
 

@@ -85,6 +85,7 @@ macro_rules! looks {
 
 changes! {
     fn start(thread, kind) = scopes_start;
+    fn start_helper(thread, kind, helper) = scopes_start_helper;
     fn end(thread) = scopes_end;
     fn make(thread, area, size) = scopes_make;
     fn enter(thread, area) = scopes_enter;
@@ -185,6 +186,7 @@ mod tests {
     /// Every call is refused by 1.
     fn refuses_by_1(core: &mut Core) {
         assert_eq!(start(core, 1, 2).status, 1);
+        assert_eq!(start_helper(core, 0, 2, 1).status, 1);
         assert_eq!(end(core, 0).status, 1);
         assert_eq!(make(core, 0, 2, 8).status, 1);
         assert_eq!(enter(core, 0, 0).status, 1);

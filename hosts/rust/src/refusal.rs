@@ -45,13 +45,13 @@ macro_rules! refusals {
 refusals! {
     /// The buffers' lengths do not fit (set-up) or are not those of set-up.
     Lengths = 1,
-    /// Thread above 15, or not started.
+    /// Thread above 15, or not started; of `start`, and the helper of `start_helper`: above 15 only.
     Thread = 2,
-    /// Thread started and not ended.
+    /// Thread (of `start_helper`: the helper) started and not ended.
     Started = 3,
     /// Kind not 1, 2 or 3; [`Kind`](crate::Kind) has no other.
     Kind = 4,
-    /// The thread's kind lacks the right, by the table in force.
+    /// The thread's kind (of `start_helper`: the helper's) lacks the right, by the table in force.
     Right = 5,
     /// Area above 63, or scope not made; of `make`: no scope's number.
     Area = 6,

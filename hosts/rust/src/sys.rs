@@ -91,6 +91,7 @@ macro_rules! exported {
 exported! {
     scopes_set_up_in_place(mut mut, const const const, heap, immortal) -> u64;
     scopes_start(mut const, const const const, thread, kind) -> Answer;
+    scopes_start_helper(mut mut, const const const, thread, kind, helper) -> Answer;
     scopes_end(mut const, const const const, thread) -> Answer;
     scopes_make(mut const, const const const, thread, area, size) -> Answer;
     scopes_enter(mut mut, const const const, thread, area) -> Answer;

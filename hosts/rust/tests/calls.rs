@@ -42,6 +42,88 @@ fn scopes_open_and_empty() {
     assert_eq!(core.enter(thread(0), area(2)), Ok(2));
 }
 
+/// A helper stands where its starter stands, in scopes that it never entered, with the rights of its
+/// own kind, and may outlive it.
+#[test]
+fn helpers_begin_with_their_starters_entries() {
+    let mut buffers = Buffers::new();
+    let mut core = buffers.begin();
+    let (driver, plotter) = (thread(0), thread(15));
+    core.enter(driver, area(2)).unwrap();
+    core.enter(driver, area(3)).unwrap();
+    assert_eq!(core.start_helper(driver, Kind::NoHeap, plotter), Ok(()));
+    assert_eq!(core.exit(driver), Ok(1));
+    assert_eq!(core.exit(driver), Ok(1));
+    assert_eq!(core.end(driver), Ok(()));
+    assert_eq!(core.end(plotter), Err(Refusal::Entries));
+    assert_eq!(core.enter(plotter, Area::HEAP), Err(Refusal::Right));
+    let curve = core.allocate(plotter, 1, 0).unwrap();
+    assert_eq!(curve.area(), area(3));
+    assert_eq!(core.exit(plotter), Ok(0));
+    assert_eq!(core.load(plotter, curve, 0), Err(Refusal::Object));
+    assert_eq!(core.exit(plotter), Ok(0));
+    assert_eq!(core.exit(plotter), Err(Refusal::Entries));
+    assert_eq!(core.end(plotter), Ok(()));
+}
+
+/// The innermost scope is the starter's too: a helper opens scopes under it, also above an entry of
+/// immortal memory.
+#[test]
+fn helpers_nest_as_their_starters() {
+    let mut buffers = Buffers::new();
+    let mut core = buffers.begin();
+    let (driver, plotter) = (thread(0), thread(3));
+    core.enter(driver, area(2)).unwrap();
+    let limits = core.allocate(driver, 0, 0).unwrap();
+    core.enter(driver, Area::IMMORTAL).unwrap();
+    core.start_helper(driver, Kind::RealTime, plotter).unwrap();
+    assert_eq!(core.enter(plotter, area(3)), Ok(1));
+    assert_eq!(core.enter(driver, area(3)), Ok(1));
+    let curve = core.allocate(plotter, 1, 0).unwrap();
+    assert_eq!(core.store(plotter, curve, 0, Some(limits)), Ok(()));
+    assert_eq!(core.exit(plotter), Ok(1));
+    assert_eq!(core.allocate(plotter, 0, 0).unwrap().area(), Area::IMMORTAL);
+}
+
+/// A helper starts helpers; each is one entry more.
+#[test]
+fn helpers_start_helpers() {
+    let mut buffers = Buffers::new();
+    let mut core = buffers.begin();
+    core.enter(thread(0), area(2)).unwrap();
+    let mut starter = thread(0);
+    for number in 3..16 {
+        let helper = thread(number);
+        assert_eq!(core.start_helper(starter, Kind::NoHeap, helper), Ok(()));
+        starter = helper;
+    }
+    for number in 3..16 {
+        assert_eq!(core.exit(thread(number)), Ok(16 - number));
+    }
+    assert_eq!(core.exit(thread(0)), Ok(0));
+}
+
+/// From a full stack all entries are received; from an empty one none, and no right is asked for.
+#[test]
+fn helpers_of_full_and_empty_stacks() {
+    let mut buffers = Buffers::new();
+    let mut core = buffers.begin();
+    let (driver, plotter, idle) = (thread(0), thread(3), thread(4));
+    assert_eq!(core.start_helper(driver, Kind::NoHeap, idle), Ok(()));
+    assert_eq!(core.exit(idle), Err(Refusal::Entries));
+    for _ in 0..31 {
+        core.enter(driver, Area::HEAP).unwrap();
+    }
+    core.enter(driver, area(2)).unwrap();
+    assert_eq!(core.start_helper(driver, Kind::RealTime, plotter), Ok(()));
+    assert_eq!(core.enter(plotter, Area::HEAP), Err(Refusal::StackFull));
+    assert_eq!(core.exit(plotter), Ok(1));
+    for _ in 0..31 {
+        assert_eq!(core.exit(plotter), Ok(0));
+    }
+    assert_eq!(core.exit(plotter), Err(Refusal::Entries));
+}
+
 #[test]
 fn objects_lie_in_the_current_area() {
     let mut buffers = Buffers::new();

@@ -67,12 +67,38 @@ fn refused_by_2_thread() {
     assert_eq!(started, Err(Refusal::Thread));
 }
 
+/// The starter is tested as any caller, before the helper; of the helper's number only that it is
+/// not above 15.
+#[test]
+fn refused_by_2_helper() {
+    let mut buffers = Buffers::new();
+    let mut core = buffers.begin();
+    for number in [3, 15, 16, u64::MAX] {
+        let started = core.start_helper(thread(number), Kind::RealTime, thread(1));
+        assert_eq!(started, Err(Refusal::Thread));
+    }
+    for number in [16, 1 << 32, u64::MAX] {
+        let started = core.start_helper(thread(0), Kind::RealTime, thread(number));
+        assert_eq!(started, Err(Refusal::Thread));
+    }
+    for number in [3, 15] {
+        let started = core.start_helper(thread(0), Kind::RealTime, thread(number));
+        assert_eq!(started, Ok(()));
+    }
+}
+
 #[test]
 fn refused_by_3_started() {
     let mut buffers = Buffers::new();
     let mut core = buffers.begin();
     let started = core.start(thread(0), Kind::NoHeap);
     assert_eq!(started, Err(Refusal::Started));
+    core.enter(thread(0), area(2)).unwrap();
+    // Before 5: an ordinary thread may not be in a scope. Thread 0 is the starter itself.
+    for number in [0, 1] {
+        let started = core.start_helper(thread(0), Kind::Ordinary, thread(number));
+        assert_eq!(started, Err(Refusal::Started));
+    }
 }
 
 #[test]
@@ -94,6 +120,32 @@ fn refused_by_5_right() {
     assert_eq!(stored, Err(Refusal::Right));
     core.store(real_time, in_scope, 0, Some(in_heap)).unwrap();
     assert_eq!(core.load(no_heap, in_scope, 0), Err(Refusal::Right));
+}
+
+/// Any entry refuses a helper whose kind may not enter it: below the top, at it, or alone. No count
+/// rises then, and the helper is not started.
+#[test]
+fn refused_by_5_helper() {
+    let mut buffers = Buffers::new();
+    let mut core = buffers.begin();
+    let (driver, plotter) = (thread(0), thread(3));
+    let stacks = [
+        (vec![Area::HEAP, area(2), area(3)], Kind::NoHeap),
+        (vec![area(2), area(3), Area::HEAP], Kind::NoHeap),
+        (vec![area(2), Area::HEAP, area(3)], Kind::Ordinary),
+        (vec![Area::IMMORTAL, Area::HEAP], Kind::Ordinary),
+    ];
+    for (stack, kind) in stacks {
+        for &area in &stack {
+            core.enter(driver, area).unwrap();
+        }
+        let started = core.start_helper(driver, kind, plotter);
+        assert_eq!(started, Err(Refusal::Right), "{stack:?}");
+        assert_eq!(core.end(plotter), Err(Refusal::Thread));
+        for _ in &stack {
+            assert_eq!(core.exit(driver), Ok(0));
+        }
+    }
 }
 
 #[test]

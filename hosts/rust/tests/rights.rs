@@ -50,6 +50,34 @@ fn ordinary_thread_uses_immortal_memory() {
     assert_eq!(core.enter(thread(0), area(2)), Err(Refusal::Right));
 }
 
+/// What a real-time thread in an area is answered, under a table, when it starts a helper of each kind.
+fn helpers_in(entered: Area, table: &[u8]) -> [Result<(), Refusal>; 3] {
+    let mut buffers = Buffers::new();
+    let mut core = buffers.set_up();
+    core.load_rights(table).unwrap();
+    core.start(thread(0), Kind::RealTime).unwrap();
+    core.make(thread(0), area(2), 8).unwrap();
+    core.enter(thread(0), entered).unwrap();
+    let kinds = [Kind::Ordinary, Kind::RealTime, Kind::NoHeap];
+    kinds.map(|kind| core.start_helper(thread(0), kind, thread(kind as u64)))
+}
+
+/// A helper needs E by the table in force, and no other right.
+#[test]
+fn helpers_by_the_table_in_force() {
+    let (yes, no) = (Ok(()), Err(Refusal::Right));
+    assert_eq!(helpers_in(Area::HEAP, BUILT_IN), [yes, yes, no]);
+    assert_eq!(helpers_in(Area::IMMORTAL, BUILT_IN), [no, yes, yes]);
+    assert_eq!(helpers_in(area(2), BUILT_IN), [no, yes, yes]);
+    assert_eq!(helpers_in(Area::IMMORTAL, OWN), [yes, yes, yes]);
+    let e_alone = b"100010001000100010001000100010001000";
+    let others_lack_e = b"011101110111100010001000011101110111";
+    for entered in [Area::HEAP, Area::IMMORTAL, area(2)] {
+        assert_eq!(helpers_in(entered, e_alone), [yes, yes, yes]);
+        assert_eq!(helpers_in(entered, others_lack_e), [no, yes, no]);
+    }
+}
+
 /// A loaded table also takes rights away.
 #[test]
 fn table_of_no_rights() {

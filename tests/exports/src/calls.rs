@@ -139,5 +139,8 @@ fn call_op(state: &mut NewState, supplied: &mut Supplied, t: u64, op: Op) -> Ans
             word,
         } => call!(scopes_write, state, supplied, t, object, index, word),
         Op::Read { object, index } => call!(scopes_read, state, supplied, t, object, index),
+        Op::StartHelper { kind, helper } => {
+            call!(scopes_start_helper, state, supplied, t, kind, helper)
+        }
     }
 }

@@ -12,10 +12,11 @@ use crate::pair::{op, Buffer};
 
 /// How many handles are remembered.
 const REMEMBERED: usize = 60;
-/// Functions to choose from: ops 01 to 0a, the two calls of the shown part, then the load.
-const FUNCTIONS: usize = 13;
+/// Functions to choose from: ops 01 to 0b, the two calls of the shown part, then the load.
+const FUNCTIONS: usize = 14;
 
-/// The weight of entries where a stack is to be filled; others are at most 10.
+/// The weight of entries where a stack is to be filled; helpers have a tenth of it then, others at most
+/// 10.
 const FILLING: u64 = 300;
 
 /// What the chooser sees: the second implementation's state and memory.
@@ -56,7 +57,7 @@ impl Chooser {
         Chooser {
             random,
             known: Vec::new(),
-            weights: [6, 1, 6, 4, 1, 2, 1, 1, 1, 1, 1, 1, 1],
+            weights: [6, 1, 6, 4, 1, 2, 1, 1, 1, 1, 1, 1, 1, 1],
             calls_left: 20,
             focus: 0,
             leading_out: false,
@@ -94,11 +95,12 @@ impl Chooser {
             7 => op(thread, self.load(seen)),
             8 => op(thread, self.write(seen)),
             9 => op(thread, self.read(seen)),
-            10 => Request::ViewStatus {
+            10 => self.start_helper(state, thread),
+            11 => Request::ViewStatus {
                 thread,
                 object: self.object(seen),
             },
-            11 => Request::ViewPlace {
+            12 => Request::ViewPlace {
                 thread,
                 object: self.object(seen),
             },
@@ -125,7 +127,8 @@ impl Chooser {
         Request::LoadRights { text }
     }
 
-    /// Every few calls another mixture; now and then almost nothing but entries, to fill a stack.
+    /// Every few calls another mixture; now and then almost nothing but entries, to fill a stack, and
+    /// helpers, to copy it.
     fn change_weights(&mut self) {
         if self.calls_left > 0 {
             self.calls_left -= 1;
@@ -138,11 +141,12 @@ impl Chooser {
         }
         if self.random.percent(15) {
             self.weights[3] = FILLING;
-            self.calls_left = 50;
+            self.weights[10] = FILLING / 10;
+            self.calls_left = 80;
         }
         // Threads end seldom, so that some are there, but now and then all do. Loads are seldom too.
         self.weights[1] = 1;
-        self.weights[12] = 1;
+        self.weights[13] = 1;
         self.leading_out = self.random.percent(6);
     }
 
@@ -182,13 +186,34 @@ impl Chooser {
     }
 
     fn start(&mut self) -> Op {
-        let kind = match self.random.below(10) {
-            0 => self.any_word(),
-            1 | 2 => 1,
-            3 => 3,
-            _ => 2,
-        };
+        let kind = self.kind(&[1, 1, 2, 2, 2, 2, 2, 2, 3]);
         Op::Start { kind }
+    }
+
+    /// One of these kinds, or now and then any number.
+    fn kind(&mut self, kinds: &[u64]) -> u64 {
+        if self.random.percent(10) {
+            return self.any_word();
+        }
+        self.random.one_of(kinds).unwrap_or(2)
+    }
+
+    /// Half of the time by the thread with the most entries. A helper that is its own starter comes
+    /// too.
+    fn start_helper(&mut self, state: &State, thread: u64) -> Request {
+        let entries = |&thread: &u64| state.thread(thread).stack.len();
+        let deepest = started(state).into_iter().max_by_key(entries);
+        let starter = match deepest {
+            Some(deepest) if self.random.percent(50) => deepest,
+            _ => thread,
+        };
+        let helper = match self.random.below(20) {
+            0 => self.any_word(),
+            1 => starter,
+            _ => self.new_thread(state),
+        };
+        let kind = self.kind(&[1, 2, 2, 3]);
+        op(starter, Op::StartHelper { kind, helper })
     }
 
     fn make(&mut self, state: &State) -> Op {

@@ -3,6 +3,7 @@
 
 pub mod calls;
 pub mod chooser;
+pub mod helpers;
 pub mod list;
 pub mod pair;
 pub mod records;

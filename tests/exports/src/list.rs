@@ -5,13 +5,15 @@ use reference::calls::{Call, Op};
 use reference::layout::Handle;
 use reference::memory::{Lengths, Memory};
 use reference::random::Random;
-use reference::rights::{Kind, DIGITS};
-use reference::state::{is_scope, IMMORTAL, LAST_GENERATION, MOST_WORDS, THREADS};
+use reference::rights::{Kind, Right, DIGITS};
+use reference::state::{is_scope, HEAP, IMMORTAL, LAST_GENERATION, MOST_WORDS};
+use reference::state::{STACK_ENTRIES, THREADS};
 use reference::texts::{self, Text};
 
 use crate::calls::{Reply, Request};
 use crate::chooser::{started, Chooser};
 use crate::exports::View;
+use crate::helpers::Received;
 use crate::pair::{op, Pair};
 use crate::records;
 use crate::tally::Tally;
@@ -30,6 +32,7 @@ pub fn run(seed: u64, count: u64, tally: &mut Tally) -> Result<(), String> {
         pair,
         chooser: Chooser::new(random),
         given: Vec::new(),
+        received: Received::default(),
         tally,
     };
     for number in 0..count {
@@ -139,6 +142,8 @@ struct List<'t> {
     chooser: Chooser,
     /// Every handle that an allocation gave.
     given: Vec<u64>,
+    /// The entries that helpers received.
+    received: Received,
     tally: &'t mut Tally,
 }
 
@@ -209,11 +214,7 @@ impl List<'_> {
             (Request::Call(call), Reply::Answer(answer)) if status == 0 => {
                 self.look_at_accepted(call, answer.value);
             }
-            (Request::Call(call), _) => {
-                let real_time = self.kind(call.thread) == Some(Kind::RealTime);
-                let situation = "a real-time thread lacks a right";
-                self.tally.note(status == 5 && real_time, situation);
-            }
+            (Request::Call(call), _) => self.look_at_refused(call, status),
             (Request::LoadRights { text }, _) => self.look_at_load(text, status),
             (_, Reply::View(view)) => self.look_at_view(view),
             _ => {}
@@ -253,8 +254,71 @@ impl List<'_> {
                 let situation = "a 0 that is marked as written is read";
                 self.tally.note(value == 0, situation);
             }
+            Op::StartHelper { kind, helper } => self.look_at_helper(call.thread, kind, helper),
+            Op::Exit => self.look_at_exit(call.thread, value),
             _ => {}
         }
+    }
+
+    fn look_at_helper(&mut self, starter: u64, kind: u64, helper: u64) {
+        let stack = &self.pair.state.thread(starter).stack;
+        let in_scope = stack.iter().any(|&area| is_scope(area));
+        let heapless = stack.is_empty() && !self.may_enter(kind, HEAP);
+        let notes = [
+            (stack.len() == STACK_ENTRIES, "a helper receives 32 entries"),
+            (
+                heapless,
+                "a helper that may not enter the heap, from an empty stack",
+            ),
+            (kind == 1 && in_scope, "an ordinary helper in a scope"),
+            (self.received.has_any(starter), "a helper starts a helper"),
+        ];
+        self.received.start(helper, stack);
+        self.note_all(&notes);
+    }
+
+    fn look_at_exit(&mut self, thread: u64, left: u64) {
+        let entries = self.pair.state.thread(thread).stack.len();
+        let area = self.received.exit(thread, entries);
+        let emptied = left == 0 && area.is_some_and(is_scope);
+        let situation = "the last entry of a scope is one that a helper received";
+        self.tally.note(emptied, situation);
+    }
+
+    fn look_at_refused(&mut self, call: Call, status: u64) {
+        if let Op::StartHelper { kind, helper } = call.op {
+            return self.look_at_refused_helper(call.thread, kind, helper, status);
+        }
+        let real_time = self.kind(call.thread) == Some(Kind::RealTime);
+        let situation = "a real-time thread lacks a right";
+        self.tally.note(status == 5 && real_time, situation);
+    }
+
+    fn look_at_refused_helper(&mut self, starter: u64, kind: u64, helper: u64, status: u64) {
+        if self.kind(starter).is_none() {
+            return;
+        }
+        let state = &self.pair.state;
+        let full = state.thread(starter).stack.len() == STACK_ENTRIES;
+        let below = self.may_enter(kind, state.current_area(starter));
+        let notes = [
+            (status == 5 && full, "a full stack refuses a helper"),
+            (
+                status == 5 && below,
+                "an entry below the top alone refuses a helper",
+            ),
+            (status == 2, "a helper's number above 15"),
+            (
+                status == 3 && helper == starter,
+                "a helper that is its own starter",
+            ),
+        ];
+        self.note_all(&notes);
+    }
+
+    fn may_enter(&self, kind: u64, area: u64) -> bool {
+        let rights = &self.pair.state.rights;
+        Kind::from_number(kind).is_some_and(|kind| rights.has_right(kind, area, Right::Enter))
     }
 
     fn kind(&self, thread: u64) -> Option<Kind> {

@@ -8,6 +8,7 @@ use reference::state::{self, State};
 use crate::calls::{self, Reply, Request};
 use crate::chooser::Seen;
 use crate::exports::{Answer, NewState, View};
+use crate::helpers;
 use crate::supplied::Supplied;
 use crate::tables::Tables;
 
@@ -101,6 +102,9 @@ impl Pair {
         if matches!(request, Request::LoadRights { .. }) && !self.same_but_rights(before) {
             return Err(format!("{request:x?}: more than the rights changed"));
         }
+        if given.status() == 0 && !self.as_helper_starts(before, request) {
+            return Err(format!("{request:x?}: not the starter's stack and counts"));
+        }
         self.same_rights()
             .map_err(|words| format!("{request:x?}: {words}"))?;
         Ok(given)
@@ -118,6 +122,11 @@ impl Pair {
     /// Whether the tables are as before, the rights apart.
     fn same_but_rights(&self, before: &NewState) -> bool {
         self.given.words == before.words && self.given.bytes[..RIGHTS] == before.bytes[..RIGHTS]
+    }
+
+    /// Whether the tables are those that an accepted start of a helper leaves, if that is the call.
+    fn as_helper_starts(&self, before: &NewState, request: Request) -> bool {
+        helpers::tables_after(before, request).is_none_or(|after| self.given == after)
     }
 
     /// A word of a buffer that the host writes itself, on both sides.

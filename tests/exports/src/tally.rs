@@ -7,9 +7,10 @@ use reference::calls::{Call, Op};
 use crate::calls::{Reply, Request};
 
 /// Each function with the statuses that it can give.
-const REACHABLE: [(&str, &[u64]); 16] = [
+const REACHABLE: [(&str, &[u64]); 17] = [
     ("set_up", &[0, 1]),
     ("start", &[0, 1, 2, 3, 4]),
+    ("start_helper", &[0, 1, 2, 3, 4, 5]),
     ("end", &[0, 1, 2, 11]),
     ("make", &[0, 1, 2, 6, 7, 8]),
     ("enter", &[0, 1, 2, 5, 6, 9, 10, 17]),
@@ -27,7 +28,7 @@ const REACHABLE: [(&str, &[u64]); 16] = [
 ];
 
 /// What the lists are meant to bring about beside the statuses.
-const SITUATIONS: [&str; 28] = [
+const SITUATIONS: [&str; 37] = [
     "a part of the permanent store",
     "a part of the scratch store",
     "a part of length 0 that is not refused",
@@ -56,6 +57,15 @@ const SITUATIONS: [&str; 28] = [
     "an ordinary thread allocates in immortal memory",
     "an ordinary thread enters a scope",
     "a real-time thread lacks a right",
+    "a helper receives 32 entries",
+    "a full stack refuses a helper",
+    "an entry below the top alone refuses a helper",
+    "a helper that may not enter the heap, from an empty stack",
+    "a helper's number above 15",
+    "a helper that is its own starter",
+    "an ordinary helper in a scope",
+    "a helper starts a helper",
+    "the last entry of a scope is one that a helper received",
 ];
 
 #[derive(Default)]
@@ -134,5 +144,6 @@ fn function_of(request: Request) -> &'static str {
         Op::Load { .. } => "load",
         Op::Write { .. } => "write",
         Op::Read { .. } => "read",
+        Op::StartHelper { .. } => "start_helper",
     }
 }
