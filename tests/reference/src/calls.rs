@@ -1,4 +1,4 @@
-//! "Calls, checks and yields": ops 01 to 0a, the shown part and its status call, and the load of a
+//! "Calls, checks and yields": ops 01 to 0b, the shown part and its status call, and the load of a
 //! rights table.
 //!
 //! Each call runs its checks in the order of its row and changes nothing before the last one.
@@ -7,7 +7,7 @@ use crate::answer::{refuse_if, Answer, Outcome, Refusal};
 use crate::layout::{Handle, Header, NULL};
 use crate::memory::Memory;
 use crate::rights::{Kind, Right, RightsTable};
-use crate::state::{is_scope, Object, State, AREAS, FIRST_SCOPE};
+use crate::state::{is_scope, Object, State, Thread, AREAS, FIRST_SCOPE};
 use crate::state::{LAST_GENERATION, STACK_ENTRIES, THREADS};
 
 /// One call of the table. Every field is any 64-bit number.
@@ -39,6 +39,8 @@ pub enum Op {
     Write { object: u64, index: u64, word: u64 },
     /// op 0a
     Read { object: u64, index: u64 },
+    /// op 0b, called by the starter
+    StartHelper { kind: u64, helper: u64 },
 }
 
 impl State {
@@ -69,6 +71,7 @@ impl State {
                 word,
             } => self.write(supplied, thread, object, index, word),
             Op::Read { object, index } => self.read(supplied, thread, object, index),
+            Op::StartHelper { kind, helper } => self.start_helper(thread, kind, helper),
         }
     }
 
@@ -115,9 +118,7 @@ impl State {
 
     /// Op 01: 1, 2, 3, 4.
     fn start(&mut self, thread: u64, kind: u64) -> Outcome {
-        refuse_if(thread >= THREADS, Refusal::Thread)?;
-        refuse_if(self.thread(thread).kind.is_some(), Refusal::Started)?;
-        let kind = Kind::from_number(kind).ok_or(Refusal::Kind)?;
+        let kind = self.check_new_thread(thread, kind)?;
         self.threads[thread as usize].kind = Some(kind);
         Ok(0)
     }
@@ -295,6 +296,23 @@ impl State {
         Ok(supplied.word(number))
     }
 
+    /// Op 0b: 1, 2 (starter), 2 (helper, above 15 only), 3 (helper), 4, 5. "The new thread receives
+    /// the same entries, and the count of each scope rises by one."
+    fn start_helper(&mut self, starter: u64, kind: u64, helper: u64) -> Outcome {
+        self.check_thread(starter)?;
+        let kind = self.check_new_thread(helper, kind)?;
+        let stack = self.thread(starter).stack.clone();
+        for &area in &stack {
+            self.check_right(kind, area, Right::Enter)?;
+        }
+        for &scope in stack.iter().filter(|&&area| is_scope(area)) {
+            self.areas[scope as usize].count += 1;
+        }
+        let kind = Some(kind);
+        self.threads[helper as usize] = Thread { kind, stack };
+        Ok(0)
+    }
+
     /// Refusal 1: "lengths are not those of set-up".
     fn check_lengths(&self, supplied: &Memory) -> Result<(), Refusal> {
         refuse_if(supplied.lengths() != self.lengths, Refusal::Lengths)
@@ -304,6 +322,13 @@ impl State {
     fn check_thread(&self, thread: u64) -> Result<Kind, Refusal> {
         refuse_if(thread >= THREADS, Refusal::Thread)?;
         self.thread(thread).kind.ok_or(Refusal::Thread)
+    }
+
+    /// A thread that is to be started: refusals 2, "above 15 only", 3 and 4. Its kind.
+    fn check_new_thread(&self, thread: u64, kind: u64) -> Result<Kind, Refusal> {
+        refuse_if(thread >= THREADS, Refusal::Thread)?;
+        refuse_if(self.thread(thread).kind.is_some(), Refusal::Started)?;
+        Kind::from_number(kind).ok_or(Refusal::Kind)
     }
 
     /// Refusal 13, "object null or not live", then 5 (U).

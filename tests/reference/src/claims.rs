@@ -7,8 +7,8 @@ use crate::layout::{Handle, NULL};
 use crate::loads::{Load, Loads};
 use crate::machine::Machine;
 use crate::random::Random;
-use crate::rights::{Right, RightsTable, DIGITS};
-use crate::state::{is_scope, AREAS, HEAP, IMMORTAL};
+use crate::rights::{Kind, Right, RightsTable, DIGITS};
+use crate::state::{is_scope, AREAS, FIRST_SCOPE, HEAP, IMMORTAL};
 
 /// Nothing, or the words of the first claim that fails.
 pub type Claim = Result<(), String>;
@@ -20,6 +20,7 @@ pub fn hold(machine: &Machine, history: &History) -> Claim {
     ancestors_in_order(history)?;
     walk_is_scan(machine, history)?;
     walk_is_rule(machine, history)?;
+    counts_are_entries(machine, history)?;
     objects_lie_within(machine, history)?;
     references_are_sound(machine, history)?;
     written_bits_are_exact(machine, history)?;
@@ -117,6 +118,17 @@ fn walk_is_rule(machine: &Machine, history: &History) -> Claim {
                 format!("an object of {holder} may hold one of {target}: {allowed}")
             })?;
         }
+    }
+    Ok(())
+}
+
+/// A scope's count is the number of its entries on all rows, also of threads that never entered it.
+fn counts_are_entries(machine: &Machine, history: &History) -> Claim {
+    for scope in FIRST_SCOPE..AREAS {
+        let (count, entries) = (machine.state.area(scope).count, history.entries(scope));
+        claim(count == entries, || {
+            format!("scope {scope} has count {count}, not {entries}")
+        })?;
     }
     Ok(())
 }
@@ -418,4 +430,44 @@ fn expected_word(
     let object = usable_object(history, table, thread, object)?;
     let word = object.words.get(index as usize).ok_or(14u64)?;
     word.ok_or(19)
+}
+
+/// A start of a helper that is not refused by 1 answers what the book and the table tell.
+pub fn helper_is_exact(
+    history: &History,
+    table: &RightsTable,
+    call: Call,
+    answer: Answer,
+) -> Claim {
+    let Op::StartHelper { kind, helper } = call.op else {
+        return Ok(());
+    };
+    let expected = expected_status(history, table, call.thread, kind, helper);
+    let given = (answer.status, answer.value);
+    claim(given == (expected, 0), || {
+        format!("the helper's start answers {given:?}, the list tells {expected}")
+    })
+}
+
+/// "2 (starter as in the table, then new number, above 15 only), 3 (new number), 4, then 5 if the
+/// kind lacks E for any entry."
+fn expected_status(
+    history: &History,
+    table: &RightsTable,
+    starter: u64,
+    kind: u64,
+    helper: u64,
+) -> u64 {
+    let rows = &history.rows;
+    let Some(Some(entries)) = rows.get(starter as usize) else {
+        return 2;
+    };
+    let may_enter = |kind, area: &u64| table.has_right(kind, *area, Right::Enter);
+    match (rows.get(helper as usize), Kind::from_number(kind)) {
+        (None, _) => 2,
+        (Some(Some(_)), _) => 3,
+        (Some(None), None) => 4,
+        (Some(None), Some(kind)) if !entries.iter().all(|area| may_enter(kind, area)) => 5,
+        (Some(None), Some(_)) => 0,
+    }
 }

@@ -78,6 +78,7 @@ impl History {
                 index,
                 word,
             } => self.write(object, index, word),
+            Op::StartHelper { kind, helper } => self.start_helper(thread, helper as usize, kind),
             _ => {}
         }
     }
@@ -145,6 +146,12 @@ impl History {
         object.words[index as usize] = Some(word);
     }
 
+    /// 0b: "The new thread receives the same entries".
+    fn start_helper(&mut self, starter: usize, helper: usize, kind: u64) {
+        self.start(helper, kind);
+        *self.row_mut(helper) = self.row_mut(starter).clone();
+    }
+
     fn row_mut(&mut self, thread: usize) -> &mut Vec<u64> {
         let row = self.rows[thread].as_mut();
         row.expect("a call was accepted for a thread that is not started")
@@ -167,6 +174,12 @@ impl History {
     /// "Open means on some row."
     pub fn is_open(&self, scope: u64) -> bool {
         self.rows.iter().flatten().any(|row| row.contains(&scope))
+    }
+
+    /// How many entries an area has on all rows.
+    pub fn entries(&self, area: u64) -> u64 {
+        let all = self.rows.iter().flatten().flatten();
+        all.filter(|&&entry| entry == area).count() as u64
     }
 
     pub fn open_scopes(&self) -> Vec<u64> {

@@ -18,6 +18,8 @@ pub enum Mood {
     Data,
     /// Scopes are emptied and used again.
     Churn,
+    /// Threads start helpers where they stand; both leave.
+    Helpers,
     /// Threads leave and end.
     Unwind,
     /// Any op with any arguments.
@@ -26,7 +28,7 @@ pub enum Mood {
     Noise,
 }
 
-const MOODS: [Mood; 10] = [
+const MOODS: [Mood; 11] = [
     Mood::Gather,
     Mood::Nest,
     Mood::Share,
@@ -34,13 +36,14 @@ const MOODS: [Mood; 10] = [
     Mood::Link,
     Mood::Data,
     Mood::Churn,
+    Mood::Helpers,
     Mood::Unwind,
     Mood::Chaos,
     Mood::Noise,
 ];
 
 /// How often each mood follows another.
-const FREQUENCIES: [u64; 10] = [6, 14, 14, 10, 18, 10, 14, 9, 10, 3];
+const FREQUENCIES: [u64; 11] = [8, 16, 14, 10, 18, 10, 18, 12, 10, 10, 3];
 
 impl Mood {
     pub fn any(random: &mut Random) -> Mood {
@@ -52,23 +55,25 @@ impl Mood {
         match self {
             Mood::Nest => random.between(20, 90),
             Mood::Churn => random.between(30, 90),
+            Mood::Helpers => random.between(20, 70),
             Mood::Noise => random.between(3, 12),
             _ => random.between(8, 40),
         }
     }
 
-    /// The weights of ops 01 to 0a.
-    pub fn weights(self) -> [u64; 10] {
+    /// The weights of ops 01 to 0b.
+    pub fn weights(self) -> [u64; 11] {
         match self {
-            Mood::Gather => [30, 3, 45, 10, 2, 5, 1, 1, 1, 2],
-            Mood::Nest => [2, 0, 8, 78, 2, 8, 1, 0, 1, 0],
-            Mood::Share => [3, 1, 2, 68, 8, 10, 4, 2, 1, 1],
-            Mood::Fill => [1, 0, 3, 8, 3, 68, 6, 3, 4, 4],
-            Mood::Link => [1, 0, 1, 5, 2, 22, 44, 20, 3, 2],
-            Mood::Data => [1, 0, 1, 3, 2, 15, 3, 3, 38, 34],
-            Mood::Churn => [1, 0, 1, 20, 22, 22, 5, 5, 14, 14],
-            Mood::Unwind => [1, 8, 1, 6, 68, 4, 4, 4, 2, 2],
-            Mood::Chaos | Mood::Noise => [10, 6, 8, 12, 8, 12, 14, 10, 10, 10],
+            Mood::Gather => [30, 3, 45, 10, 2, 5, 1, 1, 1, 2, 2],
+            Mood::Nest => [2, 0, 8, 78, 2, 8, 1, 0, 1, 0, 3],
+            Mood::Share => [3, 1, 2, 68, 8, 10, 4, 2, 1, 1, 3],
+            Mood::Fill => [1, 0, 3, 8, 3, 68, 6, 3, 4, 4, 0],
+            Mood::Link => [1, 0, 1, 5, 2, 22, 44, 20, 3, 2, 1],
+            Mood::Data => [1, 0, 1, 3, 2, 15, 3, 3, 38, 34, 0],
+            Mood::Churn => [1, 0, 1, 20, 22, 22, 5, 5, 14, 14, 0],
+            Mood::Helpers => [2, 10, 2, 26, 34, 8, 6, 3, 2, 2, 22],
+            Mood::Unwind => [1, 8, 1, 6, 68, 4, 4, 4, 2, 2, 1],
+            Mood::Chaos | Mood::Noise => [10, 6, 8, 12, 8, 12, 14, 10, 10, 10, 8],
         }
     }
 
@@ -86,6 +91,7 @@ impl Mood {
         match self {
             Mood::Nest => 92,
             Mood::Churn | Mood::Unwind => 60,
+            Mood::Helpers => 40,
             _ => 15,
         }
     }

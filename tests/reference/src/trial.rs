@@ -50,7 +50,7 @@ impl Trial {
         let before = self.machine.clone();
         let answer = self.machine.run(call);
         self.value_is_told(call, answer)?;
-        self.read_is_told(call, answer)?;
+        self.answer_is_told(call, answer)?;
         self.values.step(&self.history, call, answer);
         self.history.step(call, answer);
         self.same_on_zeroed_words(call, answer)?;
@@ -97,9 +97,11 @@ impl Trial {
         }
     }
 
-    /// A read answers by the calls before it alone.
-    fn read_is_told(&self, call: Call, answer: Answer) -> Claim {
-        claims::read_is_exact(&self.history, &self.loads.table(), call, answer)
+    /// A read and a start of a helper answer by the calls before them alone.
+    fn answer_is_told(&self, call: Call, answer: Answer) -> Claim {
+        let table = self.loads.table();
+        claims::read_is_exact(&self.history, &table, call, answer)?;
+        claims::helper_is_exact(&self.history, &table, call, answer)
     }
 
     /// "No op 08 in it yields 15." "a refusal and 0".
@@ -140,8 +142,8 @@ impl Trial {
         Ok(())
     }
 
-    /// The calls of the list that frames cannot make: with other lengths, and the shown part; and a
-    /// read of any word.
+    /// The calls of the list that frames cannot make: with other lengths, and the shown part; a read
+    /// of any word; and, by a copy, a start of a helper.
     fn beside(&mut self, call: Call) -> Claim {
         let before = self.machine.clone();
         self.refused_by_lengths(call)?;
@@ -150,6 +152,7 @@ impl Trial {
         let table = self.loads.table();
         claims::view_is_exact(&self.machine, &self.history, &table, thread, word)?;
         self.read_beside(thread, word)?;
+        self.helper_beside(thread)?;
         if self.machine != before {
             return Err("a call beside the list changed something".into());
         }
@@ -163,7 +166,16 @@ impl Trial {
         let op = Op::Read { object, index };
         let call = Call { thread, op };
         let answer = self.machine.run(call);
-        self.read_is_told(call, answer)
+        self.answer_is_told(call, answer)
+    }
+
+    /// A start of any helper, of no kind too.
+    fn helper_beside(&mut self, thread: u64) -> Claim {
+        let (kind, helper) = (self.random.below(5), self.random.below(18));
+        let op = Op::StartHelper { kind, helper };
+        let call = Call { thread, op };
+        let answer = self.machine.clone().run(call);
+        self.answer_is_told(call, answer)
     }
 
     /// Refusal 1, with one buffer a word shorter or longer.

@@ -68,6 +68,5 @@ fn left(history: &History, thread: u64) -> u64 {
     if !is_scope(top) {
         return 0;
     }
-    let all = history.rows.iter().flatten().flatten();
-    all.filter(|&&area| area == top).count() as u64 - 1
+    history.entries(top) - 1
 }

@@ -54,6 +54,28 @@ fn unwritten_word() {
     assert_eq!(text(list), expected);
 }
 
+/// No-heap thread 5 begins in scope 2, which thread 0 leaves to it.
+#[test]
+fn helper() {
+    let list = "\
+0100000000000000000200000000000000000000
+0300000000000000000000020000000000000008
+0400000000000000000000020000000000000000
+0b00000000000000000300050000000000000000
+0500000000000000000000000000000000000000
+0505000000000000000000000000000000000000
+";
+    let expected = "\
+000000000000000000
+000000000000000000
+000000000000000001
+000000000000000000
+000000000000000001
+000000000000000000
+";
+    assert_eq!(text(list), expected);
+}
+
 #[test]
 fn last_line_feed_may_be_missing() {
     assert_eq!(text(EXAMPLE.trim_end()), EXAMPLE_ANSWERS);
@@ -109,7 +131,7 @@ fn digits_are_lower_case() {
 fn ops_that_do_not_exist() {
     for op in 0..=255 {
         let line = format!("{op:02x}{}", "0".repeat(38));
-        let exists = (1..=10).contains(&op);
+        let exists = (1..=11).contains(&op);
         assert_eq!(parse(line.as_bytes()).is_some(), exists, "op {op:02x}");
     }
 }
@@ -128,6 +150,7 @@ fn unused_fields() {
         (0x08, "pq"),
         (0x09, "pqr"),
         (0x0a, "pq"),
+        (0x0b, "pq"),
     ];
     for (op, used) in used {
         for (field, places) in [('p', 4..20), ('q', 20..24), ('r', 24..40)] {
@@ -153,9 +176,15 @@ fn too_large_is_a_frame() {
 0400000000000000000000400000000000000000
 030000000000000000000002ffffffffffffffff
 06000000000000000000ffffffffffffffffffff
+0bff000000000000000200010000000000000000
+0b00000000000000000200100000000000000000
+0b000000000000000002ffff0000000000000000
+0b00ffffffffffffffff00010000000000000000
 ";
     let statuses: Vec<String> = text(list).lines().map(|l| l[..2].to_string()).collect();
-    let expected = ["02", "02", "04", "00", "06", "06", "08", "0c"];
+    let expected = [
+        "02", "02", "04", "00", "06", "06", "08", "0c", "02", "02", "02", "04",
+    ];
     assert_eq!(statuses, expected);
 }
 

@@ -51,6 +51,7 @@ fn every_call_gives_1(shorten: impl FnOnce(&mut Memory) -> Option<u64>) {
             word: 1,
         },
         Op::Read { object, index: 0 },
+        Op::StartHelper { kind: 0, helper: 9 },
     ];
     for op in ops {
         // Thread 99 would give 2.
@@ -105,6 +106,7 @@ fn number_2_comes_before_the_rest() {
     assert_eq!(bench.load(3, 0, 9), (2, 0));
     assert_eq!(bench.write(3, 0, 9, 1), (2, 0));
     assert_eq!(bench.read(3, 0, 9), (2, 0));
+    assert_eq!(bench.start_helper(3, 0, 3), (2, 0));
     assert_eq!(bench.view_answer(3, 0), (2, 0));
 }
 

@@ -129,6 +129,15 @@ fn sees_a_scope_closed_under_its_thread() {
 }
 
 #[test]
+fn sees_another_count() {
+    for count in [1, 3] {
+        let words = words_after(|machine, _, _, _| machine.state.areas[2].count = count);
+        let expected = format!("scope 2 has count {count}, not 2");
+        assert_eq!(words, expected);
+    }
+}
+
+#[test]
 fn sees_another_parent() {
     let words = words_after(|machine, _, _, _| machine.state.areas[3].parent = None);
     assert!(words.contains("has not the parent"), "{words}");
@@ -332,6 +341,69 @@ fn sees_another_answer_to_a_read() {
     assert!(!read(&history, 0, outer, 0, unwritten));
 }
 
+/// Every start of a helper has one answer: 2, 2, 3, 4, 5 in this order, or 0. Thread 0 stands in
+/// immortal memory and in the heap, the row's last.
+#[test]
+fn sees_another_answer_to_a_helper() {
+    let (mut machine, mut history) = (Machine::for_frames(), History::new());
+    let mut call = |op| run(&mut machine, &mut history, 0, op);
+    call(Op::Start { kind: REAL_TIME });
+    call(Op::Enter { area: 1 });
+    call(Op::Enter { area: 0 });
+    let built_in = RightsTable::built_in();
+    let all_rights = RightsTable::from_text(&ALL_RIGHTS).expect("a table");
+    let rows = [
+        (1, 0, 16, built_in, 2),
+        (16, 0, 16, built_in, 2),
+        (0, 0, 16, built_in, 2),
+        (0, 0, 0, built_in, 3),
+        (0, 0, 1, built_in, 4),
+        (0, 4, 15, all_rights, 4),
+        (0, 1, 1, built_in, 5),
+        (0, 3, 15, built_in, 5),
+        (0, 2, 1, built_in, 0),
+        (0, 1, 1, all_rights, 0),
+        (0, 3, 15, all_rights, 0),
+    ];
+    for (thread, kind, helper, table, expected) in rows {
+        let op = Op::StartHelper { kind, helper };
+        let told = |status, value| {
+            let answer = Answer { status, value };
+            claims::helper_is_exact(&history, &table, Call { thread, op }, answer).is_ok()
+        };
+        for status in 0..=24 {
+            assert_eq!(told(status, 0), status == expected, "{thread} {op:?}");
+            assert!(!told(status, 1));
+        }
+    }
+}
+
+/// The claims on ancestors and counts reach a thread that never entered.
+#[test]
+fn sees_a_helper_in_other_areas() {
+    let start = |machine: &mut Machine, history: &mut History| {
+        let (kind, helper) = (REAL_TIME, 4);
+        run(machine, history, 0, Op::StartHelper { kind, helper });
+        assert_eq!(all_claims(machine, history), Ok(()));
+    };
+    let words = words_after(|machine, history, _, _| {
+        start(machine, history);
+        machine.state.threads[4].stack = vec![3];
+    });
+    assert_eq!(words, "stack 4 is [3], not [2, 3]");
+    let words = words_after(|machine, history, _, _| {
+        start(machine, history);
+        machine.state.threads[4].stack = vec![3];
+        history.rows[4] = Some(vec![3]);
+    });
+    assert!(words.contains("lacks an ancestor of 3"), "{words}");
+    let words = words_after(|machine, history, _, _| {
+        start(machine, history);
+        machine.state.areas[3].count -= 1;
+    });
+    assert_eq!(words, "scope 3 has count 1, not 2");
+}
+
 /// The last accepted word of a handle and an index, and none for a new object over the same words.
 #[test]
 fn history_keeps_the_words_last_written() {
@@ -492,6 +564,30 @@ fn history_keeps_rows_parents_and_objects() {
     assert_eq!(history.rows[1], None);
 }
 
+/// A copy of the starter's row, with the helper's own kind; a scope is emptied by the last of both.
+#[test]
+fn history_keeps_the_rows_of_helpers() {
+    let (mut machine, mut history, outer, inner) = nested();
+    let (kind, helper) = (3, 7);
+    let op = Op::StartHelper { kind, helper };
+    let call = Call { thread: 0, op };
+    history.step(call, Answer::refused(Refusal::Started));
+    assert_eq!((&history.rows[7], history.kinds[7]), (&None, None));
+    run(&mut machine, &mut history, 0, op);
+    assert_eq!(history.rows[7], Some(vec![2, 3]));
+    assert_eq!(history.kinds[7], Some(Kind::NoHeap));
+    assert_eq!(history.rows[0], Some(vec![2, 3]));
+    assert_eq!(history.kinds[0], Some(Kind::RealTime));
+    assert_eq!([2, 3, 4].map(|scope| history.entries(scope)), [3, 2, 0]);
+    run(&mut machine, &mut history, 0, Op::Exit);
+    assert!(history.live_object(inner).is_some());
+    assert_eq!(history.parents[&3], Some(2));
+    run(&mut machine, &mut history, 7, Op::Exit);
+    assert!(history.live_object(inner).is_none());
+    assert!(history.live_object(outer).is_some());
+    assert!(!history.parents.contains_key(&3));
+}
+
 /// Thread 0 in scope 2 with an object that refers to itself, the first of whose two data words was
 /// written; the words of the claim that fails at a last call, after a change of both machines of the
 /// trial.
@@ -532,6 +628,16 @@ fn words_of_last(change: impl Fn(&mut Machine, u64), last: impl FnOnce(u64) -> O
 fn trial_sees_another_count_left() {
     let words = words_of_last(|machine, _| machine.state.areas[2].count = 2, |_| Op::Exit);
     assert!(words.contains("the list tells 0"), "{words}");
+}
+
+/// A helper that the table in force refuses, and the list's does not.
+#[test]
+fn trial_sees_another_answer_to_a_helper() {
+    let none = RightsTable::from_text(&[b'0'; DIGITS]).expect("a table");
+    let (kind, helper) = (REAL_TIME, 1);
+    let op = Op::StartHelper { kind, helper };
+    let words = words_of_last(|machine, _| machine.state.rights = none, |_| op);
+    assert!(words.contains("(5, 0), the list tells 0"), "{words}");
 }
 
 #[test]

@@ -10,13 +10,13 @@ use reference::calls::{Call, Op};
 use reference::frame;
 use reference::layout::{Handle, NULL};
 use reference::machine::Machine;
-use reference::rights::Right;
+use reference::rights::{Kind, Right};
 use reference::state::{is_scope, State, AREAS, HEAP, IMMORTAL, STACK_ENTRIES, THREADS};
 use reference::{arguments, generator};
 
-/// The statuses that frames can reach, for ops 01 to 0a. Refusal 1 needs other lengths, 17 needs
+/// The statuses that frames can reach, for ops 01 to 0b. Refusal 1 needs other lengths, 17 needs
 /// 2^44 - 1 entries, and op 08 yields no 15.
-const REACHABLE: [&[u64]; 10] = [
+const REACHABLE: [&[u64]; 11] = [
     &[0, 2, 3, 4],
     &[0, 2, 11],
     &[0, 2, 6, 7, 8],
@@ -27,10 +27,11 @@ const REACHABLE: [&[u64]; 10] = [
     &[0, 2, 5, 13, 14],
     &[0, 2, 5, 13, 14],
     &[0, 2, 5, 13, 14, 19],
+    &[0, 2, 3, 4, 5],
 ];
 
 /// The ways in which a line is no frame.
-const SPOILT: [&str; 17] = [
+const SPOILT: [&str; 18] = [
     "empty",
     "byte above 7f",
     "NUL",
@@ -47,11 +48,12 @@ const SPOILT: [&str; 17] = [
     "unused field of op 03 or 06",
     "unused field of op 04",
     "unused field of op 08 or 0a",
+    "unused field of op 0b",
     "last line feed missing",
 ];
 
 /// What the lists are meant to bring about.
-const SITUATIONS: [&str; 41] = [
+const SITUATIONS: [&str; 54] = [
     "stack of 32 entries",
     "32 scopes on one stack",
     "10 where the stack is not empty",
@@ -92,6 +94,19 @@ const SITUATIONS: [&str; 41] = [
     "19 there, in another map word than the header's",
     "19 where a write was refused",
     "14 that hides a 19",
+    "0b for an ordinary helper",
+    "0b for a real-time helper",
+    "0b for a no-heap helper",
+    "0b for a no-heap helper on an empty stack",
+    "0b on a stack of 32 entries",
+    "0b on 32 scopes",
+    "0b on heap or immortal entries beside scopes",
+    "0b by a helper",
+    "0b gives 2 for the helper",
+    "0b gives 3 for the starter",
+    "0b gives 5 for an entry under the top",
+    "scope left open to helpers alone",
+    "scope emptied by a thread that never entered it",
     "several faults in one call",
 ];
 
@@ -106,6 +121,8 @@ struct Past {
     refused: BTreeSet<(u64, u64)>,
     /// The numbers of words that were ever written, whatever object lay there.
     ever_written: BTreeSet<u64>,
+    /// How many of its lowest entries each helper received from its starter and still has.
+    received: BTreeMap<u64, usize>,
 }
 
 #[derive(Default)]
@@ -155,7 +172,11 @@ impl Coverage {
         }
         match answer.status {
             0 if op == 0x0a => self.add_read(past, (p, q), answer.value),
+            0 if op == 0x05 => self.add_exit(&before, past, call.thread, answer.value),
+            0 if op == 0x0b => self.add_helper(&before, past, call.thread, p),
             0 => self.add_accepted(&before, &machine.state, call, answer.value),
+            2 | 3 if op == 0x0b => self.add_helper_number(&before, call.thread, q, answer.status),
+            5 if op == 0x0b => self.add_helper_right(&before, call.thread, p),
             5 => self.add_right(&before, call),
             9 | 10 => self.add_entry_refused(&before, call, answer.status),
             13 => self.add_dead(&before, &past.given, p),
@@ -166,6 +187,9 @@ impl Coverage {
             _ => {}
         }
         past.step(machine, call.op, answer);
+        if answer.is_accepted() {
+            past.step_entries(&machine.state, call);
+        }
     }
 
     fn add_accepted(&mut self, before: &State, after: &State, call: Call, value: u64) {
@@ -270,6 +294,64 @@ impl Coverage {
         self.note(refused, "19 where a write was refused");
     }
 
+    fn add_exit(&mut self, before: &State, past: &Past, thread: u64, left: u64) {
+        let scope = before.current_area(thread);
+        if !is_scope(scope) {
+            return;
+        }
+        let never_entered = past.was_born_in(before, thread, scope);
+        self.note(
+            left == 0 && never_entered,
+            "scope emptied by a thread that never entered it",
+        );
+        let stands = |&other: &u64| before.thread(other).stack.contains(&scope);
+        let mut others = (0..THREADS).filter(|&other| other != thread).filter(stands);
+        let to_helpers = others.all(|other| past.was_born_in(before, other, scope));
+        self.note(
+            left > 0 && !never_entered && to_helpers,
+            "scope left open to helpers alone",
+        );
+    }
+
+    fn add_helper(&mut self, before: &State, past: &Past, starter: u64, kind: u64) {
+        let stack = &before.thread(starter).stack;
+        let scopes = stack.iter().filter(|&&area| is_scope(area)).count();
+        self.note(kind == 1, "0b for an ordinary helper");
+        self.note(kind == 2, "0b for a real-time helper");
+        self.note(kind == 3, "0b for a no-heap helper");
+        self.note(
+            kind == 3 && stack.is_empty(),
+            "0b for a no-heap helper on an empty stack",
+        );
+        self.note(stack.len() == STACK_ENTRIES, "0b on a stack of 32 entries");
+        self.note(scopes == STACK_ENTRIES, "0b on 32 scopes");
+        self.note(
+            0 < scopes && scopes < stack.len(),
+            "0b on heap or immortal entries beside scopes",
+        );
+        self.note(past.received.contains_key(&starter), "0b by a helper");
+    }
+
+    fn add_helper_number(&mut self, before: &State, starter: u64, helper: u64, status: u64) {
+        let started = starter < THREADS && before.thread(starter).kind.is_some();
+        self.note(status == 2 && started, "0b gives 2 for the helper");
+        self.note(
+            status == 3 && helper == starter,
+            "0b gives 3 for the starter",
+        );
+    }
+
+    fn add_helper_right(&mut self, before: &State, starter: u64, kind: u64) {
+        let Some(kind) = Kind::from_number(kind) else {
+            return;
+        };
+        let top = before.current_area(starter);
+        self.note(
+            before.rights.has_right(kind, top, Right::Enter),
+            "0b gives 5 for an entry under the top",
+        );
+    }
+
     /// An index past an object's data, at a word that is not marked as written.
     fn add_past_data(&mut self, machine: &Machine, op: Op) {
         let Op::Read { object, index } = op else {
@@ -343,7 +425,7 @@ impl Coverage {
             print!("{status:>8}");
         }
         println!();
-        for op in 1..=10 {
+        for op in 1..=11 {
             print!("{op:02x}");
             for status in &statuses {
                 match self.statuses.get(&(op, *status)) {
@@ -403,6 +485,31 @@ impl Past {
             _ => {}
         }
     }
+
+    /// An accepted call, with the state after it.
+    fn step_entries(&mut self, after: &State, call: Call) {
+        let entries = |thread: u64| after.thread(thread).stack.len();
+        match call.op {
+            Op::StartHelper { helper, .. } => {
+                self.received.insert(helper, entries(helper));
+            }
+            Op::Exit => {
+                if let Some(received) = self.received.get_mut(&call.thread) {
+                    *received = entries(call.thread).min(*received);
+                }
+            }
+            Op::End => {
+                self.received.remove(&call.thread);
+            }
+            _ => {}
+        }
+    }
+
+    /// Whether a thread received a scope from its starter.
+    fn was_born_in(&self, state: &State, thread: u64, scope: u64) -> bool {
+        let received = self.received.get(&thread).copied().unwrap_or(0);
+        state.thread(thread).stack[..received].contains(&scope)
+    }
 }
 
 /// How many of its row's conditions a call breaks at once, as far as each can be told alone.
@@ -425,6 +532,10 @@ fn faults(machine: &Machine, call: Call) -> usize {
         Op::Load { object, .. } | Op::Read { object, .. } | Op::Write { object, .. } => {
             vec![dead(object)]
         }
+        Op::StartHelper { kind, helper } => vec![
+            helper >= THREADS || state.thread(helper).kind.is_some(),
+            !(1..=3).contains(&kind),
+        ],
         Op::End | Op::Exit | Op::Allocate { .. } => vec![],
     };
     let thread = match call.op {
@@ -461,6 +572,7 @@ fn fault_of_digits(line: &[u8]) -> &'static str {
         b"03" | b"06" => "unused field of op 03 or 06",
         b"04" => "unused field of op 04",
         b"08" | b"0a" => "unused field of op 08 or 0a",
+        b"0b" => "unused field of op 0b",
         _ => "op that does not exist",
     }
 }

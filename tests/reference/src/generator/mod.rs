@@ -167,7 +167,8 @@ impl Generator {
             6 => self.store(),
             7 => self.load(),
             8 => self.write(),
-            _ => self.read(),
+            9 => self.read(),
+            _ => self.start_helper(),
         }
     }
 

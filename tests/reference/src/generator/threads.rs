@@ -3,7 +3,7 @@
 use super::{Generator, TRIES};
 use crate::calls::{Call, Op};
 use crate::rights::Kind;
-use crate::state::{State, THREADS};
+use crate::state::{State, STACK_ENTRIES, THREADS};
 
 impl Generator {
     pub(super) fn started(&self) -> Vec<u64> {
@@ -64,13 +64,69 @@ impl Generator {
         } else {
             self.unstarted_thread()
         };
-        let kind = if self.wild() {
-            self.wild_kind()
-        } else {
-            self.random.one_of(&[1, 2, 2, 2, 2, 2, 3, 3]).unwrap_or(2)
-        };
+        let kind = self.kind_to_start(&[1, 2, 2, 2, 2, 2, 3, 3]);
         let op = Op::Start { kind };
         Call { thread, op }
+    }
+
+    /// Where every thread is started, mostly one is led out instead.
+    pub(super) fn start_helper(&mut self) -> Call {
+        if self.started().len() == THREADS as usize && self.random.percent(80) {
+            return self.lead_out();
+        }
+        let thread = self.starter();
+        let helper = if self.wild() {
+            self.wild_helper(thread)
+        } else {
+            self.unstarted_thread()
+        };
+        let kind = self.kind_to_start(&[1, 2, 2, 3]);
+        let op = Op::StartHelper { kind, helper };
+        Call { thread, op }
+    }
+
+    /// The thread with the fewest entries leaves, or ends.
+    fn lead_out(&self) -> Call {
+        let state = &self.machine.state;
+        let entries = |&thread: &u64| state.thread(thread).stack.len();
+        let thread = self.started().into_iter().min_by_key(entries).unwrap_or(0);
+        let op = match entries(&thread) {
+            0 => Op::End,
+            _ => Op::Exit,
+        };
+        Call { thread, op }
+    }
+
+    /// Mostly a thread with entries, often one whose stack is full.
+    fn starter(&mut self) -> u64 {
+        let mut full = self.started();
+        let state = &self.machine.state;
+        full.retain(|&thread| state.thread(thread).stack.len() == STACK_ENTRIES);
+        let full = self.random.one_of(&full);
+        match (self.random.below(10), full) {
+            (0, _) => self.thread(),
+            (1..=4, Some(thread)) => thread,
+            _ => self.thread_that(|state, thread| !state.thread(thread).stack.is_empty()),
+        }
+    }
+
+    /// The starter itself, a started thread, and numbers as large as a frame's q.
+    fn wild_helper(&mut self, starter: u64) -> u64 {
+        match self.random.below(6) {
+            0 => starter,
+            1 => self.any_thread(),
+            2 => self.random.below(0x1_0000),
+            3 => self.random.below(THREADS) + (THREADS << self.random.below(12)),
+            _ => self.wild_thread(),
+        }
+    }
+
+    /// Mostly one of these kinds.
+    fn kind_to_start(&mut self, kinds: &[u64]) -> u64 {
+        if self.wild() {
+            return self.wild_kind();
+        }
+        self.random.one_of(kinds).unwrap_or(2)
     }
 
     /// Low numbers first, so that the threads of a list are few enough to meet.

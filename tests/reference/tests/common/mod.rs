@@ -135,6 +135,10 @@ impl Bench {
         self.run(thread, Op::Read { object, index })
     }
 
+    pub fn start_helper(&mut self, starter: u64, kind: u64, helper: u64) -> Pair {
+        self.run(starter, Op::StartHelper { kind, helper })
+    }
+
     pub fn load_rights(&mut self, text: impl AsRef<[u8]>) -> Pair {
         pair(self.machine.state.load_rights(text.as_ref()))
     }
