@@ -13,4 +13,5 @@ pub mod picture;
 pub mod program;
 pub mod refusals;
 pub mod text;
+pub mod thread;
 pub mod words;

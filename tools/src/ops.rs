@@ -30,6 +30,7 @@ pub enum Sort {
     Number,
     Kind,
     Area,
+    Thread,
     Handle,
 }
 
@@ -96,6 +97,7 @@ const SLOT: Field = field(Place::Q, "slot", "slot ", Sort::Number);
 const TARGET: Field = field(Place::R, "target", ":= ", Sort::Handle);
 const INDEX: Field = field(Place::Q, "index", "index ", Sort::Number);
 const WORD: Field = field(Place::R, "word", ":= ", Sort::Number);
+const HELPER: Field = field(Place::Q, "thread", "as ", Sort::Thread);
 
 /// The ops in the order of their numbers.
 pub static TABLE: &[Row] = &[
@@ -119,6 +121,7 @@ pub static TABLE: &[Row] = &[
     ),
     row(0x09, "write", &[OBJECT, INDEX, WORD], None),
     row(0x0a, "read", &[OBJECT, INDEX], value("word ", Sort::Number)),
+    row(0x0b, "start_helper", &[KIND, HELPER], None),
 ];
 
 /// The row of an op, with the numbers in its frame.

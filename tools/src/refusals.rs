@@ -11,7 +11,10 @@ const WORDS: &[(Refusal, &str)] = &[
     (Refusal::Thread, "thread above 15, or not started"),
     (Refusal::Started, "thread started and not ended"),
     (Refusal::Kind, "kind not 1, 2 or 3"),
-    (Refusal::Right, "the thread's kind lacks the right"),
+    (
+        Refusal::Right,
+        "the thread's kind (start_helper: the helper's) lacks the right",
+    ),
     (
         Refusal::Area,
         "area above 63, or scope not made (make: outside 2 to 63)",

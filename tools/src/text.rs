@@ -9,9 +9,7 @@ use reference::frame;
 use crate::handle;
 use crate::number;
 use crate::ops::{self, Field, Row, Sort};
-
-/// "thread 2" digits
-const LAST_THREAD: u64 = 0xff;
+use crate::thread;
 
 /// A line that is no call, and why.
 #[derive(Clone, Debug, PartialEq, Eq)]
@@ -56,25 +54,18 @@ pub fn parse(line: &str) -> Result<Option<Call>, String> {
     let words: Vec<&str> = call.split_whitespace().collect();
     match words[..] {
         [] => Ok(None),
-        [thread, ref rest @ ..] => call_by(thread, rest).map(Some),
+        [caller, ref rest @ ..] => call_by(caller, rest).map(Some),
     }
 }
 
-fn call_by(thread: &str, rest: &[&str]) -> Result<Call, String> {
-    let thread = parse_thread(thread)?;
+fn call_by(caller: &str, rest: &[&str]) -> Result<Call, String> {
+    let thread = thread::parse_caller(caller)?;
     let [name, fields @ ..] = rest else {
         return Err("the call's name is missing".into());
     };
     let row = ops::named(name).ok_or_else(|| unknown(name))?;
     let op = row.op(parse_fields(row, fields)?);
     Ok(Call { thread, op })
-}
-
-fn parse_thread(text: &str) -> Result<u64, String> {
-    let Some(digits) = text.strip_prefix('t') else {
-        return Err(format!("`{text}` is no thread: t0, t1 and so on"));
-    };
-    number::parse("thread", digits, LAST_THREAD)
 }
 
 fn unknown(name: &str) -> String {
@@ -103,18 +94,18 @@ fn miscounted(row: &Row, given: usize) -> String {
 }
 
 fn parse_field(field: &Field, text: &str) -> Result<u64, String> {
+    let (name, most) = (field.name, field.place.most());
     match field.sort {
-        Sort::Handle => handle::parse(field.name, text),
-        Sort::Number | Sort::Kind | Sort::Area => {
-            number::parse(field.name, text, field.place.most())
-        }
+        Sort::Handle => handle::parse(name, text),
+        Sort::Thread => thread::parse_field(name, text, most),
+        Sort::Number | Sort::Kind | Sort::Area => number::parse(name, text, most),
     }
 }
 
 /// The line of a call, as `parse` reads it.
 pub fn print(call: Call) -> String {
     let (row, numbers) = ops::row_of(call.op);
-    let mut line = format!("t{} {}", call.thread, row.name);
+    let mut line = format!("{} {}", thread::print(call.thread), row.name);
     for field in row.fields {
         line += &format!(" {}", print_field(field, numbers[field.place as usize]));
     }
@@ -123,6 +114,7 @@ pub fn print(call: Call) -> String {
 
 fn print_field(field: &Field, number: u64) -> String {
     match field.sort {
+        Sort::Thread => thread::print(number),
         Sort::Handle => handle::print(number),
         Sort::Number | Sort::Kind | Sort::Area => number.to_string(),
     }

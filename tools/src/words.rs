@@ -9,6 +9,7 @@ use crate::answers::Exchange;
 use crate::handle;
 use crate::ops::{self, Sort, Value};
 use crate::refusals;
+use crate::thread;
 
 /// What stands for the call of a line that is no frame.
 pub const NO_FRAME: &str = "(no frame)";
@@ -22,7 +23,7 @@ pub fn of_exchange(exchange: &Exchange) -> String {
 /// A call, as `t1 store 2.1:0 slot 0 := 3.1:0`.
 pub fn of_call(call: Call) -> String {
     let (row, numbers) = ops::row_of(call.op);
-    let mut words = format!("t{} {}", call.thread, row.name);
+    let mut words = format!("{} {}", thread::print(call.thread), row.name);
     for field in row.fields {
         let number = of_number(field.sort, numbers[field.place as usize]);
         words += &format!(" {}{number}", field.lead);
@@ -61,6 +62,7 @@ fn of_number(sort: Sort, number: u64) -> String {
         Sort::Number => number.to_string(),
         Sort::Kind => with_name(number, kind_name(number)),
         Sort::Area => with_name(number, permanent_name(number)),
+        Sort::Thread => thread::print(number),
         Sort::Handle => handle::print(number),
     }
 }

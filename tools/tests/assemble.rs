@@ -52,6 +52,10 @@ fn every_call() {
             "t0 read 2.1:0 3",
             "0a00000000000010800000030000000000000000",
         ),
+        (
+            "t1 start_helper 2 t15",
+            "0b010000000000000002000f0000000000000000",
+        ),
     ];
     for (line, frame) in rows {
         assert_eq!(frames(line), format!("{frame}\n"));
@@ -78,6 +82,10 @@ fn numbers_and_handles() {
     assert_eq!(frames("t0 read 2.1:0 0"), frames("t0 read 0x108000 0"));
     assert_eq!(frames("t0 read 0x2.0x1:0x0 0"), frames("t0 read 1081344 0"));
     assert_eq!(frames("t0 store null 0 null"), frames("t0 store 0 0 0.0:0"));
+    for thread in ["15", "0xf", "t0xf"] {
+        let line = format!("t0 start_helper 2 {thread}");
+        assert_eq!(frames(&line), frames("t0 start_helper 2 t15"), "{line}");
+    }
 }
 
 /// What a frame carries is assembled, whether the core takes it or not.
@@ -90,11 +98,15 @@ fn greatest_numbers_fit() {
         frames("t200 enter 99"),
         "04c8000000000000000000630000000000000000\n"
     );
+    assert_eq!(
+        frames("t0 start_helper 99 t65535"),
+        "0b000000000000000063ffff0000000000000000\n"
+    );
 }
 
 #[test]
 fn lines_that_are_no_call() {
-    let calls = "start, end, make, enter, exit, allocate, store, load, write, read";
+    let calls = "start, end, make, enter, exit, allocate, store, load, write, read, start_helper";
     let rows = [
         ("0 exit", "`0` is no thread: t0, t1 and so on"),
         ("exit", "`exit` is no thread: t0, t1 and so on"),
@@ -114,6 +126,15 @@ fn lines_that_are_no_call() {
             "store takes object, slot, target: 2 given",
         ),
         ("t0 read 2.1:0 0 0", "read takes object, index: 3 given"),
+        (
+            "t0 start_helper 2",
+            "start_helper takes kind, thread: 1 given",
+        ),
+        ("t0 start_helper t2 1", "kind `t2` is no number"),
+        ("t0 start_helper 2 t", "thread `` is no number"),
+        ("t0 start_helper 2 tt1", "thread `t1` is no number"),
+        ("t0 start_helper 2 t65536", "thread `65536` is above 65535"),
+        ("t0 enter t2", "area `t2` is no number"),
         ("t0 enter two", "area `two` is no number"),
         ("t0 enter 0x", "area `0x` is no number"),
         ("t0 enter 0xg", "area `0xg` is no number"),

@@ -5,6 +5,7 @@ mod common;
 mod xml;
 
 use common::{example, generated, List, EXAMPLES};
+use reference::calls::{Call, Op};
 use reference::rights::Kind;
 use tools::picture::timeline::{follow, Span, Timeline};
 use tools::{answers, picture, text};
@@ -48,34 +49,121 @@ const CALLS: &str = "\
     t1 exit
     t1 enter 3";
 
+/// A thread's entries: their areas, their places, how long they last.
+fn entries(timeline: &Timeline, thread: u64) -> Vec<(u64, usize, Span)> {
+    let entries = timeline.threads[&thread].entries.iter();
+    entries
+        .map(|entry| (entry.area, entry.place, entry.span))
+        .collect()
+}
+
+/// A thread's lives: its kinds, its starters, how long they last.
+fn lives(timeline: &Timeline, thread: u64) -> Vec<(Kind, Option<u64>, Span)> {
+    let lives = timeline.threads[&thread].lives.iter();
+    lives
+        .map(|life| (life.kind, life.starter, life.span))
+        .collect()
+}
+
 #[test]
 fn threads_and_their_stacks() {
     let timeline = timeline_of(&list_of(CALLS));
-    let entries = |thread: u64| -> Vec<(u64, usize, Span)> {
-        let entries = timeline.threads[&thread].entries.iter();
-        entries
-            .map(|entry| (entry.area, entry.place, entry.span))
-            .collect()
-    };
     let meter = [
         (2, 0, span(5, 14)),
         (1, 1, span(7, 11)),
         (3, 2, span(8, 10)),
     ];
-    assert_eq!(entries(0), meter);
-    assert_eq!(entries(1), [(2, 0, span(13, 17)), (3, 0, span_to_end(18))]);
-    let lives = |thread: u64| -> Vec<(Kind, Span)> {
-        let lives = timeline.threads[&thread].lives.iter();
-        lives.map(|life| (life.kind, life.span)).collect()
-    };
+    assert_eq!(entries(&timeline, 0), meter);
+    let plotter = [(2, 0, span(13, 17)), (3, 0, span_to_end(18))];
+    assert_eq!(entries(&timeline, 1), plotter);
     assert_eq!(
-        lives(0),
+        lives(&timeline, 0),
         [
-            (Kind::RealTime, span(1, 15)),
-            (Kind::Ordinary, span_to_end(16))
+            (Kind::RealTime, None, span(1, 15)),
+            (Kind::Ordinary, None, span_to_end(16))
         ]
     );
-    assert_eq!(lives(1), [(Kind::NoHeap, span_to_end(2))]);
+    assert_eq!(lives(&timeline, 1), [(Kind::NoHeap, None, span_to_end(2))]);
+}
+
+const HELPERS: &str = "\
+    t1 start 2
+    t1 make 2 8
+    t1 enter 2
+    t1 enter 1
+    t1 start_helper 3 t0
+    t1 start_helper 2 t0    # 6: refused, it is started
+    t1 exit
+    t1 exit
+    t1 end
+    t0 exit
+    t0 start_helper 2 t3
+    t0 exit
+    t3 exit
+    t3 end
+    t3 start 2";
+
+/// A helper's entries last from its start on, and a scope until its last helper leaves.
+#[test]
+fn helpers_and_their_stacks() {
+    let timeline = timeline_of(&list_of(HELPERS));
+    let first = [(2, 0, span(5, 12)), (1, 1, span(5, 10))];
+    assert_eq!(entries(&timeline, 0), first);
+    assert_eq!(entries(&timeline, 3), [(2, 0, span(11, 13))]);
+    assert_eq!(
+        lives(&timeline, 0),
+        [(Kind::NoHeap, Some(1), span_to_end(5))]
+    );
+    assert_eq!(
+        lives(&timeline, 3),
+        [
+            (Kind::RealTime, Some(0), span(11, 14)),
+            (Kind::RealTime, None, span_to_end(15))
+        ]
+    );
+    let openings = timeline.scopes[&2].openings.iter();
+    let spans: Vec<Span> = openings.map(|opening| opening.span).collect();
+    assert_eq!(spans, [span(3, 13)]);
+}
+
+/// The areas on a thread's stack after a column, the lowest first.
+fn stack_at(timeline: &Timeline, thread: u64, column: usize) -> Vec<u64> {
+    let lasts = |span: Span| span.from <= column && span.to.is_none_or(|to| column < to);
+    let entries = entries(timeline, thread).into_iter();
+    let mut entries: Vec<_> = entries.filter(|&(_, _, span)| lasts(span)).collect();
+    entries.sort_by_key(|&(_, place, _)| place);
+    entries.into_iter().map(|(area, _, _)| area).collect()
+}
+
+/// Each accepted start of a helper: its column, the starter, the helper.
+fn births(list: &List) -> Vec<(usize, u64, u64)> {
+    let exchanges = list.exchanges().into_iter().enumerate();
+    let accepted = exchanges.filter(|(_, exchange)| exchange.answer.is_accepted());
+    let birth = |column: usize, Call { thread, op }: Call| match op {
+        Op::StartHelper { helper, .. } => Some((column, thread, helper)),
+        _ => None,
+    };
+    accepted
+        .filter_map(|(column, exchange)| birth(column, exchange.call?))
+        .collect()
+}
+
+#[test]
+fn helpers_of_generated_lists_begin_with_their_starter_s_stack() {
+    let (mut helpers, mut copied) = (0, 0);
+    for list in generated(1..100, 300) {
+        let timeline = timeline_of(&list);
+        for (column, starter, helper) in births(&list) {
+            let stack = stack_at(&timeline, starter, column);
+            assert_eq!(stack_at(&timeline, helper, column), stack);
+            let mut lives = lives(&timeline, helper).into_iter();
+            assert!(lives.any(|(_, by, span)| by == Some(starter) && span.from == column));
+            helpers += 1;
+            copied += stack.len();
+        }
+    }
+    assert!(helpers > 100, "{helpers} helpers");
+    assert!(copied > 100, "{copied} entries");
 }
 
 /// An opening: its generation, its parent, its used words.
@@ -150,6 +238,45 @@ fn what_the_picture_says() {
     }
 }
 
+/// Each helper's life is joined with the mark of the call that began it, whichever lane lies above.
+#[test]
+fn links_from_starters_to_helpers() {
+    let picture = list_of(HELPERS).picture();
+    let column = |call: usize| {
+        let hint = line_with(&picture, &format!("<title>{call}: "));
+        attribute(hint, "x") + attribute(hint, "width") / 2
+    };
+    for (call, helper) in [(5, 0), (11, 3)] {
+        let x = column(call);
+        let mark = line_with(&picture, &format!("<circle cx=\"{x}\" "));
+        let y = attribute(mark, "cy");
+        let dot = format!("<circle cx=\"{x}\" cy=\"{y}\" r=\"3\"");
+        assert!(picture.contains(&dot), "{dot} in {picture}");
+        let name = attribute(line_with(&picture, &format!(">thread {helper}<")), "y");
+        let near = if name < y { name + 2 } else { name - 10 };
+        let link = line_with(&picture, &format!("x2=\"{x}\" y2=\"{y}\""));
+        assert_eq!((attribute(link, "x1"), attribute(link, "y1")), (x, near));
+    }
+    let dots = picture.matches(" r=\"3\"").count();
+    assert_eq!(dots, 3, "two and the legend's");
+    let words = ">from the starter (dot) to the helper<";
+    assert!(picture.contains(words));
+    assert!(!list_of(CALLS).picture().contains(words));
+}
+
+/// The line of a picture that has these words.
+fn line_with<'a>(picture: &'a str, words: &str) -> &'a str {
+    let line = picture.lines().find(|line| line.contains(words));
+    line.unwrap_or_else(|| panic!("no {words} in {picture}"))
+}
+
+/// A number among the attributes of an element.
+fn attribute(element: &str, name: &str) -> usize {
+    let text = element.split_once(&format!(" {name}=\""));
+    let number = text.and_then(|(_, rest)| rest.split('"').next()?.parse().ok());
+    number.unwrap_or_else(|| panic!("no {name} in {element}"))
+}
+
 #[test]
 fn pictures_of_any_length_are_well_formed() {
     for count in [0, 1, 2, 30, 61, 151, 300] {
@@ -205,15 +332,7 @@ fn texts_of_a_line_stand_apart() {
 fn texts(picture: &str) -> Vec<(usize, usize, usize)> {
     let lines = picture.lines().filter(|line| line.starts_with("<text x="));
     let place = |line: &str| {
-        let number = |name: &str| -> usize {
-            let (_, rest) = line
-                .split_once(&format!("{name}=\""))
-                .expect("an attribute");
-            rest.split('"')
-                .next()
-                .and_then(|number| number.parse().ok())
-                .expect("a number")
-        };
+        let number = |name: &str| attribute(line, name);
         let letters = line
             .split(['>', '<'])
             .nth(2)
@@ -222,11 +341,11 @@ fn texts(picture: &str) -> Vec<(usize, usize, usize)> {
             .count();
         let width = letters * number("font-size") * 6 / 10;
         let left = match () {
-            () if line.contains("\"middle\"") => number(" x") - width / 2,
-            () if line.contains("\"end\"") => number(" x").saturating_sub(width),
-            () => number(" x"),
+            () if line.contains("\"middle\"") => number("x") - width / 2,
+            () if line.contains("\"end\"") => number("x").saturating_sub(width),
+            () => number("x"),
         };
-        (number(" y"), left, left + width)
+        (number("y"), left, left + width)
     };
     lines.map(place).collect()
 }

@@ -79,7 +79,8 @@ fn assemble_tells_each_line_and_writes_nothing() {
     let calls = written("wrong.calls", b"t0 start 2\nt0 enter\n\nt0 leave\n");
     let told = "\
         line 2: enter takes area: 0 given\n\
-        line 4: `leave` is no call: start, end, make, enter, exit, allocate, store, load, write, read\n";
+        line 4: `leave` is no call: start, end, make, enter, exit, allocate, store, load, write, read, \
+        start_helper\n";
     let output = run(ASSEMBLE, &[&calls]);
     assert_refused(&output, 1, told);
 }

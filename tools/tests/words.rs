@@ -68,6 +68,11 @@ fn every_op_and_its_value() {
             99,
             "t7 read 2.1:0 index 3 → word 99",
         ),
+        (
+            Op::StartHelper { kind: 2, helper: 1 },
+            0,
+            "t7 start_helper 2 (real-time) as t1 → accepted",
+        ),
     ];
     for (op, value, expected) in rows {
         assert_eq!(accepted(op, value), expected);
@@ -125,7 +130,10 @@ fn every_refusal() {
         (2, "thread above 15, or not started"),
         (3, "thread started and not ended"),
         (4, "kind not 1, 2 or 3"),
-        (5, "the thread's kind lacks the right"),
+        (
+            5,
+            "the thread's kind (start_helper: the helper's) lacks the right",
+        ),
         (
             6,
             "area above 63, or scope not made (make: outside 2 to 63)",

@@ -15,6 +15,7 @@ pub const ACCEPTED: &str = "#8a9096";
 pub const REFUSED: &str = "#b3261e";
 pub const ON_REFUSED: &str = "#ffffff";
 pub const PARENT: &str = "#555555";
+pub const STARTER: &str = "#00695c";
 
 /// Hues that are told apart easily, and the lightness of their rounds: where there are more scopes
 /// than hues, the hues come again, a little turned.

@@ -1,7 +1,7 @@
 //! The drawing of a timeline: its headline, the numbers of the calls, and what lies over all lanes.
 
 use super::colours::{self, Palette};
-use super::glyphs::{bar, font};
+use super::glyphs::{self, bar, font, Link};
 use super::layout::{Lanes, Scale, NUMBERS, TITLE};
 use super::legend;
 use super::svg::{Anchor, Font, Svg};
@@ -94,6 +94,17 @@ impl Drawing {
     /// A text left of a lane.
     pub fn beside(&mut self, y: usize, font: Font, text: &str) {
         self.svg.text((self.scale.start() - 8, y), font, text);
+    }
+
+    /// Lanes and their links: the lines lie behind what is drawn in the lanes, the dots over it.
+    pub fn linked(&mut self, links: &[Link], draw_lanes: impl FnOnce(&mut Drawing)) {
+        for link in links {
+            glyphs::link_line(&mut self.svg, link);
+        }
+        draw_lanes(self);
+        for link in links {
+            glyphs::link_dot(&mut self.svg, link);
+        }
     }
 
     /// Each call in words, where a pointer rests on its column.

@@ -11,8 +11,8 @@ const STATUS: Font = Font {
 
 /// The side of a mark; two digits fit into it.
 pub const MARK: usize = 14;
-/// The radius of the dot at a parent.
-pub const PARENT_END: usize = 3;
+/// The radius of a link's dot.
+pub const LINK_DOT: usize = 3;
 /// A label's height, its base line in its bar, and the room on its left.
 pub const LABEL_HEIGHT: usize = 13;
 const BASE: usize = 10;
@@ -67,12 +67,18 @@ pub fn refused(svg: &mut Svg, (x, y): (usize, usize), status: u64) {
     svg.text((x, y + 3), STATUS, &status.to_string());
 }
 
-/// A line from a scope to its parent.
-pub fn parent_line(svg: &mut Svg, scope: (usize, usize), parent: (usize, usize)) {
-    svg.line(scope, parent, colours::PARENT);
+/// A line between two lanes with a dot at its one end: at the parent of a scope, at the starter of a
+/// helper.
+pub struct Link {
+    pub end: (usize, usize),
+    pub dot: (usize, usize),
+    pub colour: &'static str,
 }
 
-/// The parent's end of that line.
-pub fn parent_end(svg: &mut Svg, parent: (usize, usize)) {
-    svg.dot(parent, PARENT_END, colours::PARENT);
+pub fn link_line(svg: &mut Svg, link: &Link) {
+    svg.line(link.end, link.dot, link.colour);
+}
+
+pub fn link_dot(svg: &mut Svg, link: &Link) {
+    svg.dot(link.dot, LINK_DOT, link.colour);
 }

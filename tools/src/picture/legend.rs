@@ -2,8 +2,9 @@
 
 use std::collections::BTreeSet;
 
+use super::colours;
 use super::drawing::Drawing;
-use super::glyphs::{self, bar, label_width, MARK};
+use super::glyphs::{self, bar, label_width, Link, MARK};
 use super::layout::NUMBERS;
 use super::timeline::Timeline;
 use crate::refusals;
@@ -19,7 +20,7 @@ enum Glyph {
     Area(u64),
     Accepted,
     Refused(u64),
-    Parent,
+    Link(&'static str),
 }
 
 struct Item {
@@ -67,7 +68,7 @@ impl Place {
     }
 }
 
-/// The areas that are ever entered, an accepted call, the line to a parent.
+/// The areas that are ever entered, an accepted call, the lines to a starter and to a parent.
 fn lane_items(timeline: &Timeline) -> Vec<Item> {
     let entries = timeline.threads.values().flat_map(|lane| &lane.entries);
     let areas: BTreeSet<u64> = entries.map(|entry| entry.area).collect();
@@ -75,8 +76,13 @@ fn lane_items(timeline: &Timeline) -> Vec<Item> {
     if timeline.marks().any(|mark| mark.status == 0) {
         items.push(item(Glyph::Accepted, "accepted call"));
     }
+    if timeline.has_helpers() {
+        let glyph = Glyph::Link(colours::STARTER);
+        items.push(item(glyph, "from the starter (dot) to the helper"));
+    }
     if timeline.has_parents() {
-        items.push(item(Glyph::Parent, "from the parent (dot) to the scope"));
+        let glyph = Glyph::Link(colours::PARENT);
+        items.push(item(glyph, "from the parent (dot) to the scope"));
     }
     items
 }
@@ -121,10 +127,11 @@ impl Item {
             }
             Glyph::Accepted => glyphs::accepted(svg, middle),
             Glyph::Refused(status) => glyphs::refused(svg, middle, status),
-            Glyph::Parent => {
-                let (scope, parent) = ((middle.0, y + MARK), (middle.0, y + 2));
-                glyphs::parent_line(svg, scope, parent);
-                glyphs::parent_end(svg, parent);
+            Glyph::Link(colour) => {
+                let (end, dot) = ((middle.0, y + MARK), (middle.0, y + 2));
+                let link = Link { end, dot, colour };
+                glyphs::link_line(svg, &link);
+                glyphs::link_dot(svg, &link);
             }
         }
         let room = bar((x + GLYPH, x + self.width()), y + 1, MARK);

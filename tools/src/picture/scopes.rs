@@ -2,7 +2,7 @@
 
 use super::colours;
 use super::drawing::{Drawing, NAME};
-use super::glyphs::{self, bar, font, label_width, LABEL_HEIGHT, PARENT_END};
+use super::glyphs::{self, bar, font, label_width, Link, LABEL_HEIGHT, LINK_DOT};
 use super::layout::{Strip, HEADING, WORDS};
 use super::svg::{Anchor, Font, Rectangle};
 use super::timeline::{Opening, ScopeLane, Timeline};
@@ -10,50 +10,41 @@ use crate::words;
 
 const SIZE: Font = font(10, colours::FAINT_TEXT, Anchor::End);
 
-/// A scope's opening and its parent, by the points that are joined.
-struct Link {
-    scope: (usize, usize),
-    parent: (usize, usize),
-}
-
 impl Drawing {
     /// A lane for each scope. The lines to the parents lie behind the words of the scopes between.
     pub fn scopes(&mut self, timeline: &Timeline) {
-        let links = self.links(timeline);
-        for link in &links {
-            glyphs::parent_line(&mut self.svg, link.scope, link.parent);
-        }
-        for (&scope, lane) in &timeline.scopes {
-            self.scope(scope, lane);
-        }
-        for link in &links {
-            glyphs::parent_end(&mut self.svg, link.parent);
-        }
+        let parents = self.parents(timeline);
+        self.linked(&parents, |drawing| {
+            for (&scope, lane) in &timeline.scopes {
+                drawing.scope(scope, lane);
+            }
+        });
     }
 
     /// Each opening of a scope that has a parent.
-    fn links(&self, timeline: &Timeline) -> Vec<Link> {
+    fn parents(&self, timeline: &Timeline) -> Vec<Link> {
         let mut links = Vec::new();
         for (&scope, lane) in &timeline.scopes {
             let openings = lane.openings.iter();
-            links.extend(openings.filter_map(|opening| self.link(scope, opening)));
+            links.extend(openings.filter_map(|opening| self.parent(scope, opening)));
         }
         links
     }
 
     /// The near sides of both scopes' words are joined; the parent's end lies within its words.
-    fn link(&self, scope: u64, opening: &Opening) -> Option<Link> {
+    fn parent(&self, scope: u64, opening: &Opening) -> Option<Link> {
         let x = self.scale.middle(opening.span.from);
         let scope = words_strip(self.lanes.scopes[&scope]);
         let parent = words_strip(self.lanes.scopes[&opening.parent?]);
         let (from, to) = if parent.top < scope.top {
-            (scope.top, parent.bottom() - PARENT_END)
+            (scope.top, parent.bottom() - LINK_DOT)
         } else {
-            (scope.bottom(), parent.top + PARENT_END)
+            (scope.bottom(), parent.top + LINK_DOT)
         };
         Some(Link {
-            scope: (x, from),
-            parent: (x, to),
+            end: (x, from),
+            dot: (x, to),
+            colour: colours::PARENT,
         })
     }
 

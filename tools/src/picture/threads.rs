@@ -2,7 +2,7 @@
 
 use super::colours;
 use super::drawing::{Drawing, NAME};
-use super::glyphs::{self, bar};
+use super::glyphs::{self, bar, Link};
 use super::layout::{Strip, ENTRY, LIFE, MARKS};
 use super::timeline::{Entry, Life, Mark, ThreadLane, Timeline};
 use crate::words;
@@ -11,9 +11,39 @@ impl Drawing {
     /// A lane for each thread, over them one for the lines that are no call.
     pub fn threads(&mut self, timeline: &Timeline) {
         self.no_frames(&timeline.no_frames);
+        let starters = self.starters(timeline);
+        self.linked(&starters, |drawing| {
+            for (&thread, lane) in &timeline.threads {
+                drawing.thread(thread, lane);
+            }
+        });
+    }
+
+    /// Each life of a helper.
+    fn starters(&self, timeline: &Timeline) -> Vec<Link> {
+        let mut links = Vec::new();
         for (&thread, lane) in &timeline.threads {
-            self.thread(thread, lane);
+            let lives = lane.lives.iter();
+            links.extend(lives.filter_map(|life| self.starter(thread, life)));
         }
+        links
+    }
+
+    /// From the starter's call to the near side of the helper's life.
+    fn starter(&self, helper: u64, life: &Life) -> Option<Link> {
+        let x = self.scale.middle(life.span.from);
+        let call = marks_middle(self.lanes.threads[&life.starter?]);
+        let life = life_strip(self.lanes.threads[&helper]);
+        let near = if call < life.top {
+            life.top
+        } else {
+            life.bottom()
+        };
+        Some(Link {
+            end: (x, near),
+            dot: (x, call),
+            colour: colours::STARTER,
+        })
     }
 
     fn no_frames(&mut self, marks: &[Mark]) {
@@ -37,8 +67,8 @@ impl Drawing {
 
     /// A thread's kind while it is started.
     fn life(&mut self, strip: Strip, life: &Life) {
-        let ends = self.scale.ends(life.span);
-        let bar = bar(ends, strip.bottom() - LIFE + 1, LIFE - 2);
+        let Strip { top, height } = life_strip(strip);
+        let bar = bar(self.scale.ends(life.span), top, height);
         self.svg.rectangle(bar, colours::LIFE, None);
         glyphs::label(&mut self.svg, bar, words::of_kind(life.kind));
     }
@@ -53,11 +83,24 @@ impl Drawing {
 
     fn marks(&mut self, strip: Strip, marks: &[Mark]) {
         for mark in marks {
-            let at = (self.scale.middle(mark.column), strip.top + MARKS / 2);
+            let at = (self.scale.middle(mark.column), marks_middle(strip));
             match mark.status {
                 0 => glyphs::accepted(&mut self.svg, at),
                 status => glyphs::refused(&mut self.svg, at, status),
             }
         }
+    }
+}
+
+/// The height at which a lane's calls are marked.
+fn marks_middle(lane: Strip) -> usize {
+    lane.top + MARKS / 2
+}
+
+/// The part of a thread's lane that shows its life.
+fn life_strip(lane: Strip) -> Strip {
+    Strip {
+        top: lane.bottom() - LIFE + 1,
+        height: LIFE - 2,
     }
 }

@@ -23,10 +23,11 @@ pub struct Span {
     pub to: Option<usize>,
 }
 
-/// A thread from its start to its end.
+/// A thread from its start to its end; a helper has its starter.
 #[derive(Debug)]
 pub struct Life {
     pub kind: Kind,
+    pub starter: Option<u64>,
     pub span: Span,
 }
 
@@ -104,8 +105,10 @@ impl Timeline {
     /// Adds the next column.
     fn add(&mut self, exchange: &Exchange, before: &State, after: &State) {
         self.mark(exchange);
+        let caller = exchange.call.map(|call| call.thread);
         for thread in 0..THREADS {
-            self.note_life(thread, before, after);
+            let starter = caller.filter(|&caller| caller != thread);
+            self.note_life(thread, starter, before, after);
             self.note_stack(thread, before, after);
         }
         for scope in FIRST_SCOPE..AREAS {
@@ -133,7 +136,8 @@ impl Timeline {
         Span { from, to: None }
     }
 
-    fn note_life(&mut self, thread: u64, before: &State, after: &State) {
+    /// A life that begins has the starter, if the call is another thread's.
+    fn note_life(&mut self, thread: u64, starter: Option<u64>, before: &State, after: &State) {
         let (before, after) = (before.thread(thread).kind, after.thread(thread).kind);
         if before == after {
             return;
@@ -144,7 +148,11 @@ impl Timeline {
             life.span.to = Some(column);
         }
         if let Some(kind) = after {
-            lives.push(Life { kind, span });
+            lives.push(Life {
+                kind,
+                starter,
+                span,
+            });
         }
     }
 
@@ -221,6 +229,12 @@ impl Timeline {
     pub fn marks(&self) -> impl Iterator<Item = &Mark> {
         let threads = self.threads.values().flat_map(|lane| &lane.marks);
         threads.chain(&self.no_frames)
+    }
+
+    /// Whether a thread is ever a helper.
+    pub fn has_helpers(&self) -> bool {
+        let mut lives = self.threads.values().flat_map(|lane| &lane.lives);
+        lives.any(|life| life.starter.is_some())
     }
 
     /// Whether a scope ever has a parent.

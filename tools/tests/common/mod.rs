@@ -6,11 +6,12 @@ use std::path::PathBuf;
 use reference::{frame, generator};
 
 /// The lists in examples/, each with its text, answers and picture.
-pub const EXAMPLES: [&str; 4] = [
+pub const EXAMPLES: [&str; 5] = [
     "sample",
     "emptied-parent",
     "never-entered",
     "outlived-display",
+    "helper-thread",
 ];
 
 /// A file of the repository.
