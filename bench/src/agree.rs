@@ -14,9 +14,14 @@ const LISTS: u64 = 100;
 const CALLS: u64 = 2_000;
 /// Most loads before the threads start, and how many are tried after it.
 const LOADS: u64 = 3;
-/// The kinds of the threads, and how many scopes each of them makes.
+/// The kinds of the threads that are started first, and how many scopes each of them makes.
 const KINDS: [u64; 4] = [2, 2, 1, 3];
 const SCOPES: u64 = 4;
+/// The numbers that threads may have and the least that none has; the entries of a full stack.
+const NUMBERS: usize = 17;
+const FULL: usize = 32;
+/// One more than the highest status that the start of a helper or an end gives.
+const STATUSES: usize = 12;
 
 /// Panics where a side differs; else says what was compared.
 pub fn check() -> String {
@@ -24,27 +29,40 @@ pub fn check() -> String {
     for seed in 0..LISTS {
         run(seed, &mut seen);
     }
+    seen.check();
     let calls = LISTS * CALLS;
-    let [[no, yes], [no_far, yes_far]] = seen.stores;
-    let (near, far) = (no + yes, no_far + yes_far);
-    assert!(
-        no * yes * no_far * yes_far > 0,
-        "each kind of store came up"
-    );
-    let [unwritten, written] = seen.reads;
-    assert!(unwritten * written > 0, "each kind of read came up");
+    let [near, far] = seen.stores.map(|[no, yes]| no + yes);
+    let ([helpers, ..], full) = (seen.helpers, seen.full);
     format!(
         "{calls} random calls answered alike; {near} stores were decided by display, walk and scan, \
-         {far} by display and walk"
+         {far} by display and walk; {helpers} helpers were started, {full} of them with a full stack"
     )
 }
 
 /// How many stores the assignment rule refused and accepted: between areas on the thread's own stack,
-/// and others. How many reads were of a word that nobody wrote, and of a written one.
+/// and others. How many reads were of a word that nobody wrote, and of a written one. How many starts of helpers and
+/// ends gave each status, and how many helpers got a full stack.
 #[derive(Default)]
 struct Seen {
     stores: [[u64; 2]; 2],
     reads: [u64; 2],
+    helpers: [u64; STATUSES],
+    ends: [u64; STATUSES],
+    full: u64,
+}
+
+impl Seen {
+    /// Everything came up that can: of the statuses those that a host with the right lengths meets.
+    fn check(&self) {
+        let stores = self.stores.as_flattened();
+        assert!(!stores.contains(&0), "each kind of store came up");
+        assert!(!self.reads.contains(&0), "each kind of read came up");
+        let helpers = [0, 2, 3, 4, 5].map(|status| self.helpers[status]);
+        assert!(!helpers.contains(&0), "each start of a helper came up");
+        let ends = [0, 2, 11].map(|status| self.ends[status]);
+        assert!(!ends.contains(&0), "each kind of end came up");
+        assert!(self.full > 0, "a helper got a full stack");
+    }
 }
 
 fn run(seed: u64, seen: &mut Seen) {
@@ -84,12 +102,12 @@ fn no_rights(kind: usize) -> Text {
 }
 
 fn any_call(random: &mut Random, sides: &mut Sides, handles: &[u64], seen: &mut Seen) -> Answer {
-    let t = random.below(KINDS.len() as u64 + 1);
+    let t = random.below(NUMBERS as u64);
     let recent = random.below(handles.len().min(30) as u64) as usize;
     let object = handles[handles.len() - 1 - recent];
     let other = handles[random.below(handles.len() as u64) as usize];
     let index = random.below(4);
-    match random.below(21) {
+    match random.below(24) {
         0..=2 => sides.enter(t, random.below(20)),
         3..=4 => sides.exit(t),
         5..=7 => {
@@ -105,9 +123,29 @@ fn any_call(random: &mut Random, sides: &mut Sides, handles: &[u64], seen: &mut 
         }
         16..=17 => sides.read(t, object, index, seen),
         18..=19 => sides.view(t, object),
-        // A thread that is started already.
-        _ => sides.call(|machine| machine.start(t % KINDS.len() as u64, 1 + index)),
+        20 => {
+            let (t, kind) = (any_number(random, NUMBERS), any_number(random, 5));
+            sides.call(|machine| machine.start(t, kind))
+        }
+        21..=22 => {
+            let (t, helper) = (any_number(random, NUMBERS), any_number(random, NUMBERS));
+            sides.start_helper(t, any_number(random, 5), helper, seen)
+        }
+        _ => match random.below(10) {
+            0 => sides.fill(t, random),
+            1..=3 => sides.leave(t, seen),
+            _ => sides.end(any_number(random, NUMBERS), seen),
+        },
     }
+}
+
+/// Mostly a number below the bound, else one that ends in its bits.
+fn any_number(random: &mut Random, bound: usize) -> u64 {
+    let number = random.below(bound as u64);
+    if random.percent(90) {
+        return number;
+    }
+    number | 1 << random.between(4, 63)
 }
 
 /// All sides, which are given the same calls.
@@ -120,8 +158,8 @@ struct Sides {
     in_line: InLine,
     walk: Walk,
     scan: Scan,
-    /// The areas that each thread has entered and not left.
-    rows: [Vec<u64>; KINDS.len() + 1],
+    /// The areas that each thread stands in.
+    rows: [Vec<u64>; NUMBERS],
 }
 
 impl Sides {
@@ -210,6 +248,36 @@ impl Sides {
             self.rows[t as usize].pop();
         }
         answer
+    }
+
+    fn start_helper(&mut self, t: u64, kind: u64, helper: u64, seen: &mut Seen) -> Answer {
+        let answer = self.call(|machine| machine.start_helper(t, kind, helper));
+        if answer.status == 0 {
+            self.rows[helper as usize] = self.rows[t as usize].clone();
+            seen.full += u64::from(self.rows[helper as usize].len() == FULL);
+        }
+        seen.helpers[answer.status as usize] += 1;
+        answer
+    }
+
+    fn end(&mut self, t: u64, seen: &mut Seen) -> Answer {
+        let answer = self.call(|machine| machine.end(t));
+        seen.ends[answer.status as usize] += 1;
+        answer
+    }
+
+    /// A thread leaves all areas and ends.
+    fn leave(&mut self, t: u64, seen: &mut Seen) -> Answer {
+        while self.exit(t).status == 0 {}
+        self.end(t, seen)
+    }
+
+    /// A thread enters areas, so often that its stack is full then, where its rights allow that.
+    fn fill(&mut self, t: u64, random: &mut Random) -> Answer {
+        for _ in 0..4 * FULL {
+            self.enter(t, random.below(6));
+        }
+        self.enter(t, 0)
     }
 
     fn read(&mut self, t: u64, object: u64, index: u64, seen: &mut Seen) -> Answer {

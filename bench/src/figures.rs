@@ -1,6 +1,6 @@
 //! What the runs say of the rows: ratios, the marks that they are to reach, and whether they do.
 
-use crate::rows::{PerSide, Row, ROWS};
+use crate::rows::{Marks, PerSide, Row, ROWS};
 use crate::runs::Times;
 use crate::spread::Spread;
 
@@ -8,14 +8,12 @@ use crate::spread::Spread;
 const WIDE: f64 = 0.05;
 
 /// The most that a ratio may be.
-#[derive(Debug, PartialEq)]
+#[derive(Clone, Copy, Debug, PartialEq)]
 pub struct Mark {
     pub to: &'static str,
     pub most: f64,
 }
 
-pub const TUNED: Mark = mark("tuned", 1.0);
-pub const UNCHECKED: Mark = mark("tuned unchecked", 1.05);
 /// Of a view to a read on the same side.
 pub const READ: Mark = mark("a read", 1.1);
 
@@ -26,6 +24,7 @@ const fn mark(to: &'static str, most: f64) -> Mark {
 /// A row: nanoseconds on each side, for each run, and instructions, where they were counted.
 pub struct Figure {
     pub name: &'static str,
+    pub marks: Marks,
     pub runs: Vec<PerSide>,
     pub instructions: Option<PerSide>,
 }
@@ -34,6 +33,7 @@ pub struct Figure {
 pub fn figures(runs: &[Times], instructions: Option<&[PerSide]>) -> Vec<Figure> {
     let figure = |(place, row): (usize, &Row)| Figure {
         name: row.name,
+        marks: row.marks(),
         runs: of_row(runs, place),
         instructions: instructions.map(|counts| counts[place]),
     };
@@ -51,13 +51,16 @@ impl Figure {
     }
 
     fn ratios(&self) -> [Ratio; 2] {
+        let Marks { tuned, unchecked } = self.marks;
         [
-            self.ratio(&TUNED, |sides| sides.exported / sides.tuned),
-            self.ratio(&UNCHECKED, |sides| sides.exported / sides.unchecked),
+            self.ratio(mark("tuned", tuned), |sides| sides.exported / sides.tuned),
+            self.ratio(mark("tuned unchecked", unchecked), |sides| {
+                sides.exported / sides.unchecked
+            }),
         ]
     }
 
-    fn ratio(&self, mark: &'static Mark, of: fn(&PerSide) -> f64) -> Ratio {
+    fn ratio(&self, mark: Mark, of: fn(&PerSide) -> f64) -> Ratio {
         Ratio {
             row: self.name,
             mark,
@@ -70,7 +73,7 @@ impl Figure {
 /// A ratio that has a mark: of the times of each run, and of the instructions, where they were counted.
 pub struct Ratio {
     row: &'static str,
-    mark: &'static Mark,
+    mark: Mark,
     pub times: Spread,
     instructions: Option<f64>,
 }
@@ -89,7 +92,7 @@ pub fn view_to_read(figures: &[Figure], side: fn(&PerSide) -> f64) -> Ratio {
     let counts = view.instructions.as_ref().zip(read.instructions.as_ref());
     Ratio {
         row: view.name,
-        mark: &READ,
+        mark: READ,
         times: Spread::of(view.runs.iter().zip(&read.runs).map(over)),
         instructions: counts.map(over),
     }
@@ -128,15 +131,28 @@ fn shown(number: f64) -> f64 {
 
 /// Which ratios are over their marks, a sentence for each mark that is passed.
 pub fn verdict(ratios: &[Ratio]) -> String {
-    let marks = [&TUNED, &UNCHECKED, &READ];
-    let passed: Vec<String> = marks.iter().filter_map(|mark| over(ratios, mark)).collect();
+    let passed: Vec<String> = marks(ratios)
+        .into_iter()
+        .filter_map(|mark| over(ratios, mark))
+        .collect();
     if passed.is_empty() {
         return "Every row is within its marks.".into();
     }
     passed.join("\n")
 }
 
-fn over(ratios: &[Ratio], mark: &Mark) -> Option<String> {
+/// Each mark of the ratios once, in their order.
+fn marks(ratios: &[Ratio]) -> Vec<Mark> {
+    let mut marks = Vec::new();
+    for Ratio { mark, .. } in ratios {
+        if !marks.contains(mark) {
+            marks.push(*mark);
+        }
+    }
+    marks
+}
+
+fn over(ratios: &[Ratio], mark: Mark) -> Option<String> {
     let over = ratios
         .iter()
         .filter(|ratio| ratio.mark == mark && ratio.is_over());
@@ -178,12 +194,14 @@ fn listed<'a>(
 #[cfg(test)]
 pub mod tests {
     use super::*;
+    use crate::rows::MARKS;
 
     /// A row in which all sides but the exported one take 10 ns and 100 instructions.
     pub fn row(name: &'static str, exported: &[f64], instructions: Option<f64>) -> Figure {
         let sides = |exported, other| PerSide::from_line(&[exported, other, other, other, other]);
         Figure {
             name,
+            marks: MARKS,
             runs: exported.iter().map(|&time| sides(time, 10.0)).collect(),
             instructions: instructions.map(|count| sides(count, 100.0)),
         }
@@ -217,6 +235,23 @@ pub mod tests {
             told(&figures.map(|(name, time)| row(name, &[time], None))).0,
             "Over the mark 1.0 to tuned: read (1.06); exit, depth 1 (1.10).\n\
              Over the mark 1.05 to tuned unchecked: read (1.06); exit, depth 1 (1.10)."
+        );
+    }
+
+    #[test]
+    fn a_row_is_held_against_its_own_marks() {
+        let turn = |time| Figure {
+            marks: Marks {
+                tuned: 1.1,
+                unchecked: 1.15,
+            },
+            ..row("a turn", &[time], None)
+        };
+        assert_eq!(told(&[turn(11.0)]).0, NONE_OVER);
+        assert_eq!(
+            told(&[row("read", &[10.3], None), turn(11.3)]).0,
+            "Over the mark 1.0 to tuned: read (1.03).\n\
+             Over the mark 1.1 to tuned: a turn (1.13)."
         );
     }
 
@@ -292,6 +327,8 @@ pub mod tests {
         let figures = figures(&[times(10.0), times(20.0)], Some(&counts));
         let (last, place) = (figures.last().expect("a row"), ROWS.len() - 1);
         assert_eq!((figures.len(), last.name), (ROWS.len(), ROWS[place].name));
+        let marks = figures.iter().map(|figure| figure.marks);
+        assert!(marks.eq(ROWS.iter().map(Row::marks)));
         let exported: Vec<f64> = last.runs.iter().map(|run| run.exported).collect();
         assert_eq!(exported, [10.0, 20.0].map(|first| first + place as f64));
         assert_eq!(last.instructions, Some(counts[0]));

@@ -18,6 +18,8 @@ pub trait Machine {
         Self: Sized;
     fn load_rights(&mut self, text: &[u8]) -> Answer;
     fn start(&mut self, t: u64, kind: u64) -> Answer;
+    fn start_helper(&mut self, t: u64, kind: u64, helper: u64) -> Answer;
+    fn end(&mut self, t: u64) -> Answer;
     fn make(&mut self, t: u64, area: u64, size: u64) -> Answer;
     fn enter(&mut self, t: u64, area: u64) -> Answer;
     fn exit(&mut self, t: u64) -> Answer;
@@ -138,6 +140,8 @@ impl Machine for Core {
 
     exported! {
         start(t, kind) -> Answer: scopes_start;
+        start_helper(t, kind, helper) -> Answer: scopes_start_helper;
+        end(t) -> Answer: scopes_end;
         make(t, area, size) -> Answer: scopes_make;
         enter(t, area) -> Answer: scopes_enter;
         exit(t) -> Answer: scopes_exit;
@@ -198,6 +202,8 @@ macro_rules! side {
             called! {
                 $crate_name,
                 start(t, kind) -> Answer { status, value }: start;
+                start_helper(t, kind, helper) -> Answer { status, value }: start_helper;
+                end(t) -> Answer { status, value }: end;
                 make(t, area, size) -> Answer { status, value }: make;
                 enter(t, area) -> Answer { status, value }: enter;
                 exit(t) -> Answer { status, value }: exit;

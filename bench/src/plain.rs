@@ -1,8 +1,8 @@
 //! The core in plain safe Rust: a state of records in place, lent as `&mut State`, with the same checks in
 //! the same order. The innermost scope stands beside each stack entry, so that every call takes
-//! constant time here too.
+//! constant time here too, but for the start of a helper, which goes over its starter's stack.
 //!
-//! It is compiled twice: as the compiler thinks best, and with the helpers forced in line.
+//! It is compiled twice: as the compiler thinks best, and with the inner functions forced in line.
 
 const LAST_GENERATION: u64 = (1 << 44) - 1;
 
@@ -165,6 +165,17 @@ impl State {
         }
     }
 
+    /// Refusals 2, of a number above 15 alone, 3 and 4.
+    #[cfg_attr(feature = "in_line", inline(always))]
+    fn new_thread(&self, t: u64, kind: u64) -> Result<(), u64> {
+        match self.threads.get(t as usize) {
+            None => Err(2),
+            Some(thread) if thread.kind != 0 => Err(3),
+            Some(_) if kind == 0 || kind > 3 => Err(4),
+            Some(_) => Ok(()),
+        }
+    }
+
     fn is_made(&self, area: usize) -> bool {
         area < 2 || self.areas[area].size > 0
     }
@@ -295,16 +306,10 @@ pub fn start(
     if !st.fits(p, s, m, w) {
         return refused(1);
     }
-    let Some(thread) = st.threads.get_mut(t as usize) else {
-        return refused(2);
-    };
-    if thread.kind != 0 {
-        return refused(3);
+    if let Err(status) = st.new_thread(t, kind) {
+        return refused(status);
     }
-    if kind == 0 || kind > 3 {
-        return refused(4);
-    }
-    thread.kind = kind;
+    st.threads[t as usize].kind = kind;
     accepted(0)
 }
 
@@ -436,6 +441,50 @@ pub fn exit(st: &mut State, p: &[u64], s: &[u64], m: &[u64], w: &[u64], t: u64) 
         scope.depth = 0;
     }
     accepted(scope.count)
+}
+
+// ---- ops 02 and 0b
+
+#[inline(never)]
+pub fn end(st: &mut State, p: &[u64], s: &[u64], m: &[u64], w: &[u64], t: u64) -> Answer {
+    match st.caller(p, s, m, w, t) {
+        Err(status) => return refused(status),
+        Ok(thread) if thread.len > 0 => return refused(11),
+        Ok(_) => {}
+    }
+    st.threads[t as usize].kind = 0;
+    accepted(0)
+}
+
+#[inline(never)]
+#[allow(clippy::too_many_arguments)]
+pub fn start_helper(
+    st: &mut State,
+    p: &[u64],
+    s: &[u64],
+    m: &[u64],
+    w: &[u64],
+    t: u64,
+    kind: u64,
+    helper: u64,
+) -> Answer {
+    let starter = match st.caller(p, s, m, w, t) {
+        Err(status) => return refused(status),
+        Ok(thread) => *thread,
+    };
+    if let Err(status) = st.new_thread(helper, kind) {
+        return refused(status);
+    }
+    let stack = &starter.entries[..starter.len];
+    let allowed = |&area: &u8| st.allowed(kind, area as usize, Right::Enter);
+    if !stack.iter().all(allowed) {
+        return refused(5);
+    }
+    for &scope in stack.iter().filter(|&&area| area >= 2) {
+        st.areas[scope as usize].count += 1;
+    }
+    st.threads[helper as usize] = Thread { kind, ..starter };
+    accepted(0)
 }
 
 // ---- op 06

@@ -1,7 +1,7 @@
 //! The measured parts of the report in Markdown: ratios first.
 
 use crate::distances::{Check, Rules};
-use crate::figures::{self, Figure, Ratio, READ, TUNED, UNCHECKED};
+use crate::figures::{self, Figure, Ratio, READ};
 use crate::rows::{PerSide, Row, ROWS};
 use crate::spread::Spread;
 
@@ -19,28 +19,32 @@ pub fn calls(figures: &[Figure]) -> String {
 
 fn calls_table(figures: &[Figure]) -> String {
     let headings = [
-        "call".into(),
-        format!("ratio to tuned, mark {:?}", TUNED.most),
-        format!("ratio to tuned unchecked, mark {:?}", UNCHECKED.most),
-        "to tuned, least to most".into(),
-        "to unchecked, least to most".into(),
-        "exported, ns".into(),
-        "tuned, ns".into(),
-        "unchecked, ns".into(),
-        "ratio to plain Rust".into(),
-        "ratio to plain Rust in line".into(),
+        "call",
+        "ratio to tuned",
+        "mark",
+        "ratio to tuned unchecked",
+        "mark",
+        "to tuned, least to most",
+        "to unchecked, least to most",
+        "exported, ns",
+        "tuned, ns",
+        "unchecked, ns",
+        "ratio to plain Rust",
+        "ratio to plain Rust in line",
     ];
-    table(&headings, figures.iter().map(calls_row))
+    table(&headings.map(String::from), figures.iter().map(calls_row))
 }
 
-fn calls_row(figure: &Figure) -> [String; 10] {
+fn calls_row(figure: &Figure) -> [String; 12] {
     let tuned = figure.spread(|run| run.exported / run.tuned);
     let unchecked = figure.spread(|run| run.exported / run.unchecked);
     let middle = |number: fn(&PerSide) -> f64| hundredths(figure.spread(number).middle);
     [
         figure.name.into(),
         hundredths(tuned.middle),
+        mark(figure.marks.tuned),
         hundredths(unchecked.middle),
+        mark(figure.marks.unchecked),
         range(tuned),
         range(unchecked),
         middle(|run| run.exported),
@@ -58,7 +62,7 @@ fn view_table(figures: &[Figure]) -> String {
         [side.into(), hundredths(times.middle), range(times), mark]
     };
     let rows = [
-        row("exported", |run| run.exported, format!("{:?}", READ.most)),
+        row("exported", |run| run.exported, mark(READ.most)),
         row("tuned", |run| run.tuned, String::new()),
         row("tuned unchecked", |run| run.unchecked, String::new()),
     ];
@@ -178,6 +182,11 @@ fn hundredths(number: f64) -> String {
     format!("{number:.2}")
 }
 
+/// A mark, with as many digits as it has and one at least.
+fn mark(most: f64) -> String {
+    format!("{most:?}")
+}
+
 fn nanoseconds(time: f64) -> String {
     format!("{time:.2} ns")
 }
@@ -213,6 +222,8 @@ mod tests {
         let cells = [
             "read",
             "1.00",
+            "1.0",
+            "1.05",
             "1.05",
             "0.90 to 1.05",
             "0.90 to 1.25",

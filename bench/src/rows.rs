@@ -1,10 +1,11 @@
-//! The rows and the sides of the first table: which calls are compared, and on which cores.
+//! The rows and the sides of the first table: which calls are compared, on which cores, and how much more than Rust
+//! they may take.
 
 use crate::machine::{Core, InLine, Machine, Plain, Tuned, Unchecked};
 use crate::measure::Loop;
 use crate::scenes::{Nest, Room};
 
-/// How deep the calls on objects are nested, and how far above their target is.
+/// How deep the calls on objects and the start of a helper are nested, and how far above a target is.
 const DEPTH: u64 = 8;
 const DISTANCE: u64 = 4;
 
@@ -18,8 +19,25 @@ enum Calls {
     Write,
     /// A scope that is opened under so many others and left.
     EnterAndExit(u64),
+    /// A helper that is started, leaves every scope and ends.
+    Helper,
     /// An object of no slot and so many data words.
     Allocate(u64),
+}
+
+/// The most that the ratios to tuned Rust and to it unchecked may be.
+#[derive(Clone, Copy, Debug, PartialEq)]
+pub struct Marks {
+    pub tuned: f64,
+    pub unchecked: f64,
+}
+
+/// Of a call or a pair of calls, and of the ten calls of a helper.
+pub const MARKS: Marks = marks(1.0, 1.05);
+const HELPER_MARKS: Marks = marks(1.1, 1.15);
+
+const fn marks(tuned: f64, unchecked: f64) -> Marks {
+    Marks { tuned, unchecked }
 }
 
 #[derive(Clone, Copy)]
@@ -28,7 +46,16 @@ pub struct Row {
     calls: Calls,
 }
 
-pub const ROWS: [Row; 12] = [
+impl Row {
+    pub fn marks(&self) -> Marks {
+        match self.calls {
+            Calls::Helper => HELPER_MARKS,
+            _ => MARKS,
+        }
+    }
+}
+
+pub const ROWS: [Row; 13] = [
     row("store", Calls::Store),
     row("load", Calls::Load),
     row("read", Calls::Read),
@@ -37,6 +64,7 @@ pub const ROWS: [Row; 12] = [
     row("enter + exit, depth 1", Calls::EnterAndExit(0)),
     row("enter + exit, depth 8", Calls::EnterAndExit(7)),
     row("enter + exit, depth 31", Calls::EnterAndExit(30)),
+    row("start helper + its exits + end, depth 8", Calls::Helper),
     row("allocate, 0 data words", Calls::Allocate(0)),
     row("allocate, 1 data word", Calls::Allocate(1)),
     row("allocate, 8 data words", Calls::Allocate(8)),
@@ -106,6 +134,7 @@ fn row_loop<M: Machine + 'static>(row: Row) -> Loop {
         Calls::View => nested::<M>(DEPTH, |nest, calls| nest.view(calls)),
         Calls::Write => nested::<M>(DEPTH, |nest, calls| nest.write(calls)),
         Calls::EnterAndExit(above) => nested::<M>(above, |nest, calls| nest.enter_and_exit(calls)),
+        Calls::Helper => nested::<M>(DEPTH, |nest, turns| nest.start_helper(turns)),
         Calls::Allocate(data_words) => {
             let mut room = Room::<M>::new();
             Box::new(move |calls| room.allocate(calls, data_words))

@@ -4,8 +4,9 @@ use std::hint::black_box;
 
 use crate::machine::{Answer, InLine, Machine, SCRATCH};
 
-/// The thread of all calls; it is real-time, so that it may do everything.
+/// The thread of all calls, and the helper that it starts; both are real-time, so that they may do everything.
 const T: u64 = 0;
+const HELPER: u64 = 1;
 const REAL_TIME: u64 = 2;
 const FIRST_SCOPE: u64 = 2;
 /// Objects in each scope, used by turns, with their slots and data words.
@@ -130,6 +131,24 @@ impl<M: Machine> Nest<M> {
         }
         ok(self.machine.enter(T, scope));
         ok(self.machine.exit(T));
+    }
+
+    pub fn start_helper(&mut self, turns: u64) {
+        for _ in 0..turns {
+            self.helper_turn(|answer| _ = black_box(answer));
+        }
+        self.helper_turn(|answer| _ = ok(answer));
+    }
+
+    /// Starts a helper, which leaves every scope and ends.
+    #[inline(always)]
+    fn helper_turn(&mut self, answered: impl Fn(Answer)) {
+        let kind = black_box(REAL_TIME);
+        answered(self.machine.start_helper(T, kind, HELPER));
+        for _ in 0..self.depth {
+            answered(self.machine.exit(HELPER));
+        }
+        answered(self.machine.end(HELPER));
     }
 }
 

@@ -20,10 +20,16 @@ mod by_place {
     pub fn part<T>(words: &mut [T], places: Range<usize>) -> &mut [T] {
         &mut words[places]
     }
+
+    #[inline(always)]
+    pub fn first<T>(words: &[T], n: usize) -> &[T] {
+        &words[..n]
+    }
 }
 
-// SAFETY, of all three: every area ends within its store, every used word has its bit in the map, and
-// a live object ends within its area's used words. Set-up gives this and every call keeps it.
+// SAFETY, of all four: every area ends within its store, every used word has its bit in the map, a live
+// object ends within its area's used words, and no stack is longer than its row. Set-up gives this and every call
+// keeps it.
 #[cfg(feature = "unchecked")]
 mod by_place {
     use super::Range;
@@ -42,6 +48,11 @@ mod by_place {
     pub fn part<T>(words: &mut [T], places: Range<usize>) -> &mut [T] {
         unsafe { words.get_unchecked_mut(places) }
     }
+
+    #[inline(always)]
+    pub fn first<T>(words: &[T], n: usize) -> &[T] {
+        unsafe { words.get_unchecked(..n) }
+    }
 }
 
-pub use by_place::{get, part, put};
+pub use by_place::{first, get, part, put};

@@ -1,36 +1,9 @@
-//! Ops 01, 03, 04 and 05: threads start, scopes are made, entered and left.
+//! Ops 03, 04 and 05: scopes are made, entered and left.
 
-use crate::rights::{Mask, Right};
-use crate::state::{accepted, refused, Answer, State, AREAS, FIRST_SCOPE, STACK_ENTRIES, THREADS};
+use crate::rights::Right;
+use crate::state::{accepted, refused, Answer, State, AREAS, FIRST_SCOPE, STACK_ENTRIES};
 
 const LAST_GENERATION: u64 = (1 << 44) - 1;
-
-pub fn start(
-    st: &mut State,
-    p: &[u64],
-    s: &[u64],
-    m: &[u64],
-    w: &[u64],
-    t: u64,
-    kind: u64,
-) -> Answer {
-    if st.other_lengths(p, s, m, w) {
-        return refused(1);
-    }
-    if t >= THREADS {
-        return refused(2);
-    }
-    let thread = &mut st.threads[t as usize];
-    if thread.kind != 0 {
-        return refused(3);
-    }
-    if kind == 0 || kind > 3 {
-        return refused(4);
-    }
-    thread.kind = kind as u8;
-    thread.rights = Mask::of(&st.rights[kind as usize - 1]);
-    accepted(0)
-}
 
 #[allow(clippy::too_many_arguments)]
 pub fn make(

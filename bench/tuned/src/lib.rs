@@ -1,5 +1,5 @@
 //! The core as a Rust engineer who cares for speed would write it: records of 32 bytes, the place of an area's
-//! first map bit kept in its record, a thread's rights as a mask, one branch for the four lengths, every helper
+//! first map bit kept in its record, a kind's rights as a mask, one branch for the four lengths, every inner function
 //! in line. The checks and their order are those of the exported functions.
 //!
 //! It is compiled twice: as safe code, and with the feature `unchecked`, which drops the bounds checks
@@ -13,10 +13,12 @@ mod objects;
 mod references;
 mod rights;
 mod state;
+mod threads;
 
-pub use areas::{enter, exit, make, start};
+pub use areas::{enter, exit, make};
 pub use data::{read, view, write};
 pub use objects::allocate;
 pub use references::{load, store};
 pub use rights::load_rights;
 pub use state::{Answer, State, View};
+pub use threads::{end, start, start_helper};

@@ -1,7 +1,7 @@
-//! The rights table of the state, which can be loaded, and the mask that a thread keeps of its kind's rights.
-//! A table is loaded only while no thread is started, so that no mask is ever out of date.
+//! The rights table of the state, which can be loaded: a mask for each kind, of which a thread keeps its own. A table
+//! is loaded only while no thread is started, so that no mask is ever out of date.
 
-use crate::state::{accepted, refused, Answer, State, FIRST_SCOPE};
+use crate::state::{accepted, refused, Answer, State, FIRST_SCOPE, STACK_ENTRIES};
 
 /// For each kind and class of areas the four rights.
 pub type Table = [[[bool; 4]; 3]; 3];
@@ -28,8 +28,10 @@ pub struct Mask(u16);
 
 impl Mask {
     const STARTED: u16 = 1 << 12;
+    /// The first right's bit for each class.
+    const CLASSES: u16 = 0x111;
 
-    pub fn of(kind: &[[bool; 4]; 3]) -> Mask {
+    fn of(kind: &[[bool; 4]; 3]) -> Mask {
         let rights = kind.iter().flatten().enumerate();
         let bits = rights.map(|(place, &has)| u16::from(has) << place);
         Mask(bits.fold(Mask::STARTED, |mask, bit| mask | bit))
@@ -45,6 +47,28 @@ impl Mask {
         let class = area.min(FIRST_SCOPE) as u32;
         u32::from(self.0) >> (class * 4 + right as u32) & 1 != 0
     }
+
+    /// Whether the right is there for every entry of a stack. None is looked at where it is there for every class;
+    /// else all 32 places are, sixteen at a time, and those above the length do not count.
+    #[inline(always)]
+    pub fn have_for_all(self, right: Right, entries: &[u8; STACK_ENTRIES], len: u8) -> bool {
+        let every = Mask::CLASSES << right as u32;
+        if self.0 & every == every {
+            return true;
+        }
+        let [heap, immortal, scope] = [0, 1, FIRST_SCOPE].map(|area| !self.have(right, area));
+        let mut lacking = false;
+        for (place, &area) in (0..).zip(entries) {
+            let lacks = heap & (area == 0) | immortal & (area == 1) | scope & (area > 1);
+            lacking |= lacks & (place < len);
+        }
+        !lacking
+    }
+}
+
+/// The mask of each kind.
+pub fn masks(table: &Table) -> [Mask; 3] {
+    table.each_ref().map(Mask::of)
 }
 
 /// Puts another table in force: refusals 23 and 24.
@@ -55,7 +79,7 @@ pub fn load_rights(st: &mut State, text: &[u8]) -> Answer {
     if st.threads.iter().any(|thread| thread.kind != 0) {
         return refused(24);
     }
-    st.rights = table;
+    st.rights = masks(&table);
     accepted(0)
 }
 

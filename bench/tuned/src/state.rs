@@ -1,7 +1,7 @@
 //! The state's records, and what every call begins with: the caller, and the object of a handle.
 
 use crate::access::get;
-use crate::rights::{Mask, Right, Table, BUILT_IN};
+use crate::rights::{masks, Mask, Right, BUILT_IN};
 
 pub const THREADS: u64 = 16;
 pub const AREAS: u64 = 64;
@@ -74,7 +74,8 @@ pub struct State {
     pub map: usize,
     /// Scratch words that belong to a scope.
     pub taken: u32,
-    pub rights: Table,
+    /// Those of each kind.
+    pub rights: [Mask; 3],
 }
 
 /// A live object: its area, the places of its header in its store and of the header's bit in a map, its slots and
@@ -112,7 +113,7 @@ impl State {
             scratch,
             map,
             taken: 0,
-            rights: BUILT_IN,
+            rights: masks(&BUILT_IN),
         }
     }
 
