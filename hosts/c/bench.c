@@ -1,5 +1,5 @@
 /* A measuring bench in C: calls by its threads, in orders that broke earlier versions of the core, with what the core
- * answers. A helper leaves a parent while its child is open; a plotter keeps a reference into a sample that is emptied; a
+ * answers. An assistant leaves a parent while its child is open; a plotter keeps a reference into a sample that is emptied; a
  * driver starts its plotter inside a sample, and leaves before it. At the end the bench loads a rights table of its own. */
 #include <inttypes.h>
 #include <stdio.h>
@@ -11,7 +11,7 @@ enum { HEAP_WORDS = 64, IMMORTAL_WORDS = 64, PERMANENT_WORDS = HEAP_WORDS + IMMO
 enum { MAP_WORDS = SCOPES_MAP_WORDS(PERMANENT_WORDS, SCRATCH_WORDS) };
 
 /* The threads of this bench and its scopes. */
-enum { METER = 0, HELPER = 1, PLOTTER = 2, CLERK = 3, DRIVER = 4 };
+enum { METER = 0, ASSISTANT = 1, PLOTTER = 2, CLERK = 3, DRIVER = 4 };
 enum { RUN = 2, SAMPLE = 3 };
 
 /* The memory that this host lends, and its core. */
@@ -47,30 +47,30 @@ static void begin(void)
         IMMORTAL_WORDS);
     printf("set-up gives status %" PRIu64 " %s\n", status, scopes_status_name(status));
     show("meter starts, real-time", scopes_core_start(&core, METER, SCOPES_REAL_TIME));
-    show("helper starts, real-time", scopes_core_start(&core, HELPER, SCOPES_REAL_TIME));
+    show("assistant starts, real-time", scopes_core_start(&core, ASSISTANT, SCOPES_REAL_TIME));
     show("plotter starts, real-time", scopes_core_start(&core, PLOTTER, SCOPES_REAL_TIME));
     show("meter makes the scope run, 32 words", scopes_core_make(&core, METER, RUN, 32));
     show("meter makes the scope sample, 32 words", scopes_core_make(&core, METER, SAMPLE, 32));
 }
 
-/* The helper works on a sample too, and leaves the run before the meter leaves the sample. */
+/* The assistant works on a sample too, and leaves the run before the meter leaves the sample. */
 static void parent_left_under_child(void)
 {
-    title("A helper leaves a parent while its child is open");
+    title("An assistant leaves a parent while its child is open");
     show("meter enters run", scopes_core_enter(&core, METER, RUN));
     uint64_t limits = show("meter allocates limits in run, 1 data word", scopes_core_allocate(&core, METER, 0, 1));
     show("meter writes 70 into limits", scopes_core_write(&core, METER, limits, 0, 70));
-    show("helper enters sample by itself", scopes_core_enter(&core, HELPER, SAMPLE));
+    show("assistant enters sample by itself", scopes_core_enter(&core, ASSISTANT, SAMPLE));
     show("meter enters sample under run", scopes_core_enter(&core, METER, SAMPLE));
-    show("helper leaves sample", scopes_core_exit(&core, HELPER));
+    show("assistant leaves sample", scopes_core_exit(&core, ASSISTANT));
     show("meter enters sample under run", scopes_core_enter(&core, METER, SAMPLE));
-    show("helper enters sample by itself", scopes_core_enter(&core, HELPER, SAMPLE));
-    show("helper enters run", scopes_core_enter(&core, HELPER, RUN));
-    show("helper enters sample under run", scopes_core_enter(&core, HELPER, SAMPLE));
+    show("assistant enters sample by itself", scopes_core_enter(&core, ASSISTANT, SAMPLE));
+    show("assistant enters run", scopes_core_enter(&core, ASSISTANT, RUN));
+    show("assistant enters sample under run", scopes_core_enter(&core, ASSISTANT, SAMPLE));
     uint64_t curve = show("meter allocates curve in sample, 1 slot", scopes_core_allocate(&core, METER, 1, 0));
     show("meter stores limits in curve", scopes_core_store(&core, METER, curve, 0, limits));
-    show("helper leaves sample, the meter stays", scopes_core_exit(&core, HELPER));
-    show("helper leaves run, the meter stays", scopes_core_exit(&core, HELPER));
+    show("assistant leaves sample, the meter stays", scopes_core_exit(&core, ASSISTANT));
+    show("assistant leaves run, the meter stays", scopes_core_exit(&core, ASSISTANT));
     show("meter loads limits from curve", scopes_core_load(&core, METER, curve, 0));
     show("meter reads limits", scopes_core_read(&core, METER, limits, 0));
     show("meter stores curve in limits, which has no slot", scopes_core_store(&core, METER, limits, 0, curve));
@@ -126,7 +126,7 @@ static void another_nesting(void)
     show("plotter leaves sample", scopes_core_exit(&core, PLOTTER));
     show("meter leaves run", scopes_core_exit(&core, METER));
     show("meter ends", scopes_core_end(&core, METER));
-    show("helper ends", scopes_core_end(&core, HELPER));
+    show("assistant ends", scopes_core_end(&core, ASSISTANT));
     show("plotter ends", scopes_core_end(&core, PLOTTER));
 }
 

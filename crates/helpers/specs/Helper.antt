@@ -7,9 +7,9 @@ use mathlib.Core.Logic.{_≢_}
 use mathlib.Core.Path.{_≡_, refl, sym, ap, ap₂, _∙_}
 use native.Mathlib.Numerals.{add-one}
 use native.Mathlib.Omega.{arith}
-use lib.Dec.{eqb, leb}
-use lib.ListN.{length, getD}
-use borrow.Author.Tests.{eqb-true, eqb-false, lt-leb, le-leb}
+use lib.Dec.{eqb}
+use lib.ListN.{getD}
+use borrow.Author.Tests.{eqb-true, eqb-false}
 use Rattle.layout.specs.Choice.{refuse, hit, skip, cases, and-true}
 use Rattle.layout.specs.Stack.{down}
 use Rattle.layout.specs.StackLaws.{length-down}
@@ -22,7 +22,6 @@ use Rattle.model.specs.Threads.{startable}
 use Rattle.model.specs.Scopes.{reentered}
 use Rattle.model.specs.Helpers.{mayEnterAll, helperRest, raisedArea, raised, helperState, helperChange}
 use Rattle.model.specs.History.{occurrences}
-use Rattle.model.specs.Invariant.{Good}
 use Rattle.model.proofs.Accepted.{Called, HelperOk, helper-ok, StartOk, startable-ok}
 use Rattle.model.proofs.Lists.{occ-more}
 use Rattle.model.proofs.Alters.{AllOpen, raised-low, raised-scope, raised-keeps}
@@ -30,10 +29,11 @@ use Rattle.model.proofs.KeepsHelper.{stack-open, raised-bound, good-helper}
 use Rattle.tables.specs.declared.ThreadWords.{ThreadWords}
 use Rattle.tables.specs.declared.Entry.{Entry}
 use Rattle.tables.specs.Decode.{stateOf, areaRecord, putArea, threadRecord, putThread, entryRecord, copyStack, rightsOf, Shaped, Holds}
-use Rattle.tables.specs.Laws.{area-read, len-read, entry-read, thread-read, state-area, state-copy}
+use Rattle.tables.specs.Laws.{area-read, len-read, entry-read, state-area, state-copy}
 use Rattle.tables.specs.Contract.{Ready, Changed}
 use Rattle.tables.specs.AnsweredLaws.{changed-accepted}
 use Rattle.callers.specs.Caller.{thread-refused, called-rest}
+use Rattle.callers.specs.Stack.{length-bound}
 use Rattle.threads.specs.Thread.{start-refused, start-passed}
 
 -- ---- the lowest n entries of a stack
@@ -117,12 +117,9 @@ module _ (w b : List ℕ) (y : Ready w b) (t : ℕ) (h : t < 16) where
   entry-is : (i : ℕ) {x : Entry} → i < 32 → x ≡ entryRecord b t i → x .area ≡ getD (threadAt (stateOf w b) t .entries) i 0
   entry-is i k e = ap (λ (z : Entry). z .area) e ∙ sym (entry-read w b t i h k)
 
-  pub height : {x : ThreadWords} → x ≡ threadRecord w t → x .len ≤ 32
-  height e = omega (arith, len-read w b t h e, y .good .threads .each t h .fits)
-
   -- it is an area
   pub entry-area : {x : ThreadWords} → x ≡ threadRecord w t → (i : ℕ) {z : Entry} → i < x .len → z ≡ entryRecord b t i → z .area < 64
-  entry-area e i k f = rw (entry-is i (omega (arith, height e)) f) (y .good .threads .each t h .areas i (omega (arith, len-read w b t h e)))
+  entry-area e i k f = rw (entry-is i (omega (arith, length-bound w b y t h _ e)) f) (y .good .threads .each t h .areas i (omega (arith, len-read w b t h e)))
 
   -- the kind may enter the area of each entry so far
   pub enters-none : (kind : ℕ) → true ≡ mayEnterAll (stateOf w b .rights) kind (lowest (stateOf w b) t 0)
@@ -158,7 +155,7 @@ module _ (w b : List ℕ) (y : Ready w b) (t : ℕ) (h : t < 16) where
       arith,
       raised-bound (stateOf w b) (y .good) (lowest (stateOf w b) t i) opens a l,
       length-down (threadAt (stateOf w b) t .entries) i,
-      height f,
+      length-bound w b y t h _ f,
     ))
       where
         opens : AllOpen (stateOf w b) (lowest (stateOf w b) t i)

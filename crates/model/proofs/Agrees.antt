@@ -25,7 +25,7 @@ use Rattle.model.proofs.Accepted.{fitted-ok, start-ok, end-ok, make-ok,
 use Rattle.model.proofs.Lists.{total-set, occ-same, map-set}
 use Rattle.model.proofs.Memory.{put-same, put-other}
 use Rattle.model.proofs.Sound.{Same, same-words}
-use Rattle.model.proofs.Parts.{thread-same, thread-other, stack-is}
+use Rattle.model.proofs.Parts.{stack-is}
 use Rattle.model.proofs.Stacks.{stack-none}
 use Rattle.model.proofs.Bounds.{by-area, current-area}
 use Rattle.model.proofs.Alters.{same-field, make-alters, allocate-alters, enter-stays, open-alters, fresh-alters, enter-others, by-left, exit-stays, exit-others}

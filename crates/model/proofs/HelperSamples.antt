@@ -3,7 +3,7 @@
 use Prim.Native.Nat.{ℕ, zero, suc}
 use mathlib.Core.List.{List, [], _∷_, _++_}
 use mathlib.Core.Path.{_≡_, refl}
-use Rattle.model.specs.State.{Memory, areaAt, threadAt, stackAt}
+use Rattle.model.specs.State.{areaAt, threadAt, stackAt}
 use Rattle.model.specs.Helpers.{raised}
 use Rattle.model.specs.Calls.{Call, start, end, make, enter, exit, startHelper, allocate, write, read, loadRights}
 use Rattle.model.proofs.SampleRuns.{answer, after, statuses, values, each, supplied, copies, first, busy}

@@ -3,14 +3,13 @@
 use Prim.Native.Nat.{ℕ, _+_, _≤_, _<_}
 use mathlib.Core.List.{List, [], _∷_, map}
 use mathlib.Core.Path.{_≡_, refl, sym, ap, _∙_}
-use mathlib.Core.Logic.{_≢_}
 use lib.ListN.{length, getD, set}
 use lib.Dec.{leb, ltb}
 use native.Mathlib.Omega.{arith}
 use borrow.Author.Tests.{leb-true, leb-false, ltb-true, ltb-false}
 use Rattle.layout.specs.Choice.{cases}
 use Rattle.model.specs.declared.Area.{Area}
-use Rattle.model.specs.State.{Thread, State, noThread, areaAt, threadAt, withKind, withArea, withThread, entriesOf, stackAt, displayAt}
+use Rattle.model.specs.State.{Thread, State, areaAt, threadAt, withKind, withArea, withThread, entriesOf, stackAt, displayAt}
 use Rattle.model.specs.Scopes.{reentered}
 use Rattle.model.specs.Helpers.{raisedArea, raised, helperState}
 use Rattle.model.specs.History.{occurrences}
@@ -19,7 +18,7 @@ use Rattle.model.proofs.Accepted.{HelperOk}
 use Rattle.model.proofs.Lists.{occ-le-total, map-set}
 use Rattle.model.proofs.Nesting.{row-at, nested-frame, nesting-set}
 use Rattle.model.proofs.Parts.{stack-is, display-same, nested-good, good-thread}
-use Rattle.model.proofs.Stacks.{length-stack, stack-none}
+use Rattle.model.proofs.Stacks.{stack-none}
 use Rattle.model.proofs.Bounds.{occ-length, count-bound}
 use Rattle.model.proofs.Alters.{Raises, AllOpen, tail-open, head-open, raised-low, raised-scope, raised-keeps, raised-raises, helper-raises}
 use Rattle.model.proofs.KeepsThreads.{idle-empty}

@@ -12,7 +12,7 @@ use Rattle.model.proofs.Parts.{nesting-same, nested-good, good-thread}
 
 module _ (s : State) (t : ℕ) where
   -- a thread's kind is no part of its stack
-  pub kind-stacks : (k : ℕ) → stacksIn (withThread s t (withKind (threadAt s t) k)) ≡ stacksIn s
+  kind-stacks : (k : ℕ) → stacksIn (withThread s t (withKind (threadAt s t) k)) ≡ stacksIn s
   unfolding withThread entriesOf
   kind-stacks k = map-set-same entriesOf (s .threads) t (withKind (threadAt s t) k) noThread refl
 

@@ -1,6 +1,5 @@
 -- `apply_helper` meets its contract: the counts are raised, then the starter's stack is the helper's too.
 use denote.Ref.{now}
-use borrow.Author.Needs.{needs}
 use Rattle.tables.specs.Contract.{stateIn}
 use Rattle.helpers.specs.Helper.{copied-holds}
 use Rattle.helpers.proofs.apply_helper.Statement.{statement}

@@ -8,7 +8,8 @@ use borrow.Author.Needs.{needs}
 use borrow.Author.Tests.{not-true, not-false}
 use Rattle.model.specs.Helpers.{mayEnterAll}
 use Rattle.tables.specs.Decode.{rightsOf, stateOf}
-use Rattle.helpers.specs.Helper.{lowest, whole, height, enters-every, enters-none, enters-more, enters-not}
+use Rattle.callers.specs.Stack.{length-bound}
+use Rattle.helpers.specs.Helper.{lowest, whole, enters-every, enters-none, enters-more, enters-not}
 use Rattle.helpers.proofs.may_enter_all.Statement.{statement}
 use Rattle.helpers.proofs.may_enter_all.Tie as tie
 
@@ -32,7 +33,7 @@ room : (c : tie.After-thread-at Inv-loop μ-loop) → c .thread-at .result .len 
 room c =
     let o = start c in
     let a = o .args in
-    height (now (a .words)) (now (a .bytes)) (o .pre .0) (a .t) (o .pre .1) (c .thread-at .ensures)
+    length-bound (now (a .words)) (now (a .bytes)) (o .pre .0) (a .t) (o .pre .1) _ (c .thread-at .ensures)
 
 loop-holds : tie.Need-loop-holds Inv-loop μ-loop
 loop-holds c =

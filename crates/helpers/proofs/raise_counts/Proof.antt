@@ -1,13 +1,12 @@
 -- `raise_counts` meets its contract. The invariant: the counts of the entries so far are raised.
-use mathlib.Core.Path.{_≡_, ap, _∙_}
 use Prim.Native.Nat.{_-_, _≤_}
 use native.Mathlib.Omega.{arith}
 use denote.Ref.{now}
 use borrow.Author.Needs.{needs}
-use Rattle.model.specs.State.{stackAt}
 use Rattle.model.specs.Helpers.{raised}
 use Rattle.tables.specs.Decode.{stateOf, Holds}
-use Rattle.helpers.specs.Helper.{lowest, whole, height, entry-area, raised-none, raised-room, raised-more}
+use Rattle.callers.specs.Stack.{length-bound}
+use Rattle.helpers.specs.Helper.{lowest, whole, entry-area, raised-none, raised-room, raised-more}
 use Rattle.helpers.proofs.raise_counts.Statement.{statement}
 use Rattle.helpers.proofs.raise_counts.Tie as tie
 
@@ -31,7 +30,7 @@ room : (c : tie.After-thread-at Inv-loop μ-loop) → c .thread-at .result .len 
 room c =
     let o = start c in
     let a = o .args in
-    height (now (a .words)) (now (a .bytes)) (o .pre .0) (a .t) (o .pre .1) (c .thread-at .ensures)
+    length-bound (now (a .words)) (now (a .bytes)) (o .pre .0) (a .t) (o .pre .1) _ (c .thread-at .ensures)
 
 entry-at-requires : tie.Need-entry-at-requires Inv-loop μ-loop
 entry-at-requires c κs = let h = c .before .before in (start h .pre .1, omega (arith, room h))

@@ -1,5 +1,4 @@
 -- `callers::right::has_right` meets its contract. Assumes nothing.
-use borrow.Author.Needs.{needs}
 use denote.Ref.{now}
 use Rattle.callers.specs.Rights.{kind-within, by-kind}
 use Rattle.callers.proofs.right.has_right.Statement.{statement}
