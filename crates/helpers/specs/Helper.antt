@@ -48,15 +48,15 @@ unfolding entriesOf
 whole w b t h e n f = ap (down (threadAt (stateOf w b) t .entries)) (f ∙ sym (len-read w b t h e))
 
 -- a part of a stack has no scope that the stack has not
-occ-down : (a : ℕ) (l : List ℕ) (i n : ℕ) → i ≤ n → 0 < occurrences a (down l i) → 0 < occurrences a (down l n)
+occ-part : (a : ℕ) (l : List ℕ) (i n : ℕ) → i ≤ n → 0 < occurrences a (down l i) → 0 < occurrences a (down l n)
 unfolding down
-occ-down a l i zero h p = rw (← i-is) at p
+occ-part a l i zero h p = rw (← i-is) at p
   where
     i-is : 0 ≡ i
     i-is = omega arith
-occ-down a l i (suc n) h p = cases (eqb i (suc n))
+occ-part a l i (suc n) h p = cases (eqb i (suc n))
     (λ e. rw (eqb-true i (suc n) e) at p)
-    (λ e. occ-more a (getD l n 0) (down l n) (occ-down a l i n (omega (arith, eqb-false i (suc n) e)) p))
+    (λ e. occ-more a (getD l n 0) (down l n) (occ-part a l i n (omega (arith, eqb-false i (suc n) e)) p))
 
 -- ---- a kind and a stack
 
@@ -160,7 +160,7 @@ module _ (w b : List ℕ) (y : Ready w b) (t : ℕ) (h : t < 16) where
       where
         opens : AllOpen (stateOf w b) (lowest (stateOf w b) t i)
         opens c n p = stack-open (stateOf w b) (y .good) t h c n
-            (occ-down c (threadAt (stateOf w b) t .entries) i (threadAt (stateOf w b) t .len) (omega (arith, len-read w b t h f)) p)
+            (occ-part c (threadAt (stateOf w b) t .entries) i (threadAt (stateOf w b) t .len) (omega (arith, len-read w b t h f)) p)
 
     pub raised-more : {x : Entry} → i < 32 → x ≡ entryRecord b t i → {u : List ℕ} → Holds u b (raisedArea (stateOf v b) (x .area))
         → Holds u b (raised (stateOf w b) (lowest (stateOf w b) t (i + 1)))

@@ -3,7 +3,7 @@
 use Prim.Native.Nat.{ℕ, suc, _+_, _≤_, _<_}
 use mathlib.Core.Bool.{true, false≢true}
 use mathlib.Core.List.{List, [], _∷_, _++_}
-use mathlib.Core.Path.{_≡_, refl, sym, ap}
+use mathlib.Core.Path.{_≡_, refl, sym, ap, _∙_}
 use mathlib.Core.Logic.{_↔_, _⊎_, inl, inr, ⊎-elim}
 use lib.Dec.{eqb}
 use lib.ListN.{length, set}
@@ -15,11 +15,11 @@ use Rattle.model.specs.State.{State, Memory, areaAt, current, storeOf}
 use Rattle.model.specs.Calls.{Call, start, end, make, enter, exit, startHelper, allocate, store, write, asks, configure}
 use Rattle.model.specs.Run.{Line, World}
 use Rattle.model.specs.History.{Object, History, threadRow, below, occurrences, handles, isScopeOnNone, historyThread, historyEnter, historyExit, historyAllocate, historyWords, historyStep, historyLine, historyFrom, historyOf}
-use Rattle.model.specs.Claims.{Open, Walk, ends, goes, Meets, here, up, InOrder, keep, skip, onRow, scan, In, Among, Within, Allocates, Since, made, stays, Names, Claims}
+use Rattle.model.specs.Claims.{Open, Walk, ends, goes, Meets, here, up, InOrder, keep, skip, onRow, scan, In, Among, Within, Allocates, Since, made, stays, Names, newest, Claims}
 use Rattle.model.proofs.Lists.{on-one, occ-le-total, occ-nil, occ-other}
 use Rattle.model.proofs.Memory.{put-same, put-other}
 use Rattle.model.proofs.Traces.{among-some}
-use Rattle.model.proofs.ValueMeanings.{row-received}
+use Rattle.model.proofs.ValueMeanings.{helper-number, row-received}
 
 -- ---- lists: what is one of a list stands at some place of it, and nothing else is
 
@@ -305,6 +305,9 @@ stands-in-ancestors k t a c h i on m =
 -- "The guarantees on ancestors must cover threads that never called enter": a helper that has just been started, thread q, stands in all ancestors
 -- of each scope on its starter's row
 pub helper-in-ancestors : {w : World} → Claims w (historyOf (w .trace)) → (l : Line) (ls : List Line) → w .trace ≡ l ∷ ls
-    → (t p q : ℕ) → l .call ≡ startHelper t p q → l .reply .status ≡ 0 → q < length (historyOf ls .rows)
+    → (t p q : ℕ) → l .call ≡ startHelper t p q → l .reply .status ≡ 0
     → (a c : ℕ) → 2 ≤ a → 2 ≤ c → Among a (threadRow (historyOf ls) t) → Meets (historyOf (w .trace) .parents) c a → Among c (threadRow (historyOf (w .trace)) q)
-helper-in-ancestors {w} k l ls d t p q e z n a c h i on m = stands-in-ancestors k q a c h i (rw (d, row-received l ls t p q e z n) on) m
+helper-in-ancestors {w} k l ls d t p q e z a c h i on m = stands-in-ancestors k q a c h i (rw (d, row-received l ls t p q e z number) on) m
+  where
+    number : q < 16
+    number = helper-number ls t p q (sym (k .helpers l ls (rw d newest) t p q e (λ y. omega (arith, y))) ∙ z)

@@ -3,19 +3,19 @@
 -- Assumes nothing.
 use Prim.Native.Nat.{ℕ, suc, _+_, _≤_, _<_}
 use mathlib.Core.List.{List, [], _∷_, _++_}
-use mathlib.Core.Path.{_≡_, refl, ap}
+use mathlib.Core.Path.{_≡_, refl, ap, _∙_}
 use mathlib.Core.Logic.{_≢_}
-use lib.Dec.{eqb}
-use lib.ListN.{length}
+use lib.Dec.{eqb, leb}
+use lib.ListN.{length, length-set}
 use lib.Seq.{getD-set-same, getD-set-other}
 use native.Mathlib.Omega.{arith}
-use borrow.Author.Tests.{eqb-true, eqb-false, eq-eqb, ne-eqb, le-leb}
-use Rattle.layout.specs.Choice.{cases}
+use borrow.Author.Tests.{eqb-true, eqb-false, eq-eqb, ne-eqb, le-leb, leb-false}
+use Rattle.layout.specs.Choice.{cases, peel}
 use Rattle.layout.specs.Handle.{null}
-use Rattle.model.specs.Calls.{Call, enter, startHelper, allocate, store, write}
+use Rattle.model.specs.Calls.{Call, start, end, make, enter, exit, startHelper, allocate, store, write, asks, configure}
 use Rattle.model.specs.Run.{Line}
-use Rattle.model.specs.History.{threadRow, occurrences, total, historyThread, historyAllocate, historyWords, historyStep, historyLine, historyFrom, historyOf}
-use Rattle.model.specs.Values.{openingStep, openingLine, lastOpening}
+use Rattle.model.specs.History.{History, blank, threadRow, occurrences, total, historyThread, historyEnter, historyExit, historyAllocate, historyWords, historyStep, historyLine, historyFrom, historyOf}
+use Rattle.model.specs.Values.{openingStep, openingLine, lastOpening, helperAnswer}
 use Rattle.model.specs.Claims.{Open, Follows, newest, older}
 use Rattle.model.proofs.Lists.{total-set, occ-nil}
 use Rattle.model.proofs.Memory.{put-same, put-word-own, put-word-other}
@@ -23,6 +23,36 @@ use Rattle.model.proofs.Memory.{put-same, put-word-own, put-word-other}
 pub follows-all : (ks ls : List Line) (l : Line) → Follows l ls (ks ++ (l ∷ ls))
 follows-all [] ls l = newest
 follows-all (k ∷ ks) ls l = older (follows-all ks ls l)
+
+-- ---- the rows of the history are those of 16 threads
+
+rows-step : (b : History) (c : Call) (v : ℕ) → length (historyStep b c v .rows) ≡ length (b .rows)
+unfolding historyThread historyEnter historyExit historyAllocate historyWords
+rows-step b (start t p) v = length-set (b .rows) t _
+rows-step b (end t) v = length-set (b .rows) t _
+rows-step b (make t q r) v = refl
+rows-step b (enter t q) v = length-set (b .rows) t _
+rows-step b (exit t) v = length-set (b .rows) t _
+rows-step b (startHelper t p q) v = length-set (b .rows) q _
+rows-step b (allocate t q r) v = refl
+rows-step b (store t p q r) v = refl
+rows-step b (write t p q r) v = refl
+rows-step b (asks x) v = refl
+rows-step b (configure x) v = refl
+
+pub row-count : (ls : List Line) → length (historyOf ls .rows) ≡ 16
+unfolding historyFrom historyLine blank
+row-count [] = refl
+row-count (l ∷ ls) = cases (eqb (l .reply .status) 0) (λ e. rw e (rows-step (historyOf ls) (l .call) (l .reply .value) ∙ row-count ls)) (λ e. rw e (row-count ls))
+
+-- a helper that the lines let start has a number below 16
+pub helper-number : (ls : List Line) (t p q : ℕ) → helperAnswer ls t p q ≡ 0 → q < 16
+unfolding helperAnswer
+helper-number ls t p q e =
+    let a = peel _ _ _ e in
+    let b = peel _ _ _ (a .1) in
+    let c = peel (leb 16 q) _ _ (b .1) in
+    leb-false 16 q (c .0)
 
 module _ (l : Line) (ls : List Line) where
   -- ---- stored and written words
@@ -86,20 +116,20 @@ module _ (l : Line) (ls : List Line) where
   -- right after an accepted start of a helper, thread q
   module _ (t p q : ℕ) (e : l .call ≡ startHelper t p q) (z : l .reply .status ≡ 0) where
     -- it has its starter's row, and every other thread the row that it had
-    pub row-received : q < length (historyOf ls .rows) → threadRow (historyOf (l ∷ ls)) q ≡ threadRow (historyOf ls) t
+    pub row-received : q < 16 → threadRow (historyOf (l ∷ ls)) q ≡ threadRow (historyOf ls) t
     unfolding historyThread
-    row-received h = rw (history-accepted z (startHelper t p q) e) (getD-set-same (historyOf ls .rows) q (threadRow (historyOf ls) t) [] h)
+    row-received h = rw (history-accepted z (startHelper t p q) e) (getD-set-same (historyOf ls .rows) q (threadRow (historyOf ls) t) [] (omega (arith, row-count ls)))
 
     pub row-stays : (u : ℕ) → u ≢ q → threadRow (historyOf (l ∷ ls)) u ≡ threadRow (historyOf ls) u
     unfolding historyThread
     row-stays u n = rw (history-accepted z (startHelper t p q) e) (getD-set-other (historyOf ls .rows) q u (threadRow (historyOf ls) t) [] n)
 
     -- an area has as many entries more as it has on the starter's row
-    pub entries-received : q < length (historyOf ls .rows) → threadRow (historyOf ls) q ≡ [] → (a : ℕ)
+    pub entries-received : q < 16 → threadRow (historyOf ls) q ≡ [] → (a : ℕ)
         → total a (historyOf (l ∷ ls) .rows) ≡ total a (historyOf ls .rows) + occurrences a (threadRow (historyOf ls) t)
     unfolding historyThread
     entries-received h n a = rw (history-accepted z (startHelper t p q) e)
-        (omega (arith, total-set a (historyOf ls .rows) q (threadRow (historyOf ls) t) h, ap (occurrences a) n, occ-nil a))
+        (omega (arith, total-set a (historyOf ls .rows) q (threadRow (historyOf ls) t) (omega (arith, row-count ls)), ap (occurrences a) n, occ-nil a))
 
     -- and its kind is p
     pub kind-received : historyOf (l ∷ ls) .kinds q ≡ p
