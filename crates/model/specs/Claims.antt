@@ -1,5 +1,5 @@
--- What is claimed after every list of calls: the third demand, what loads, reads, entries and exits answer, and the rights table in force. Each
--- claim is a field of one record.
+-- What is claimed after every list of calls: the third demand, what loads, reads, entries, exits and starts of helpers answer, and the rights table
+-- in force. Each claim is a field of one record.
 -- Assumes nothing.
 use Prim.Native.Nat.{ℕ, suc, _+_, _≤_, _<_}
 use mathlib.Core.Bool.{Bool, true, false}
