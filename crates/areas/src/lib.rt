@@ -1,2 +1,2 @@
-// Scopes are made. (Crates `entry` and `exit` have how one is entered and left.)
+// Scopes are made. (Crates `entry`, `exit` and `removal` have how one is entered, left and removed.)
 pub mod make; // make.rt: op 03

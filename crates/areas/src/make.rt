@@ -1,71 +1,70 @@
 // Op 03: a scope is made.
 use layout::answer::Answer;
-use model::Area;
 use tables::Bytes;
 use tables::Words;
 ghost use mathlib.Core.Path.{_≡_};
-ghost use mathlib.Core.Bool.{_||_};
-ghost use Prim.Native.Nat.{_+_, _<_, _≤_};
-ghost use lib.Dec.{eqb, ltb};
-ghost use Rattle.model.specs.Scopes.{makeRest, madeArea, makeState, makeChange};
+ghost use Prim.Native.Nat.{_<_};
+ghost use Rattle.model.specs.Blocks.{roomFor};
+ghost use Rattle.model.specs.Scopes.{makeState, makeChange};
 ghost use Rattle.model.specs.Calls as calls;
+ghost use Rattle.model.proofs.Accepted.{MakeOk};
 ghost use Rattle.tables.specs.Contract.{stateIn, before, Leaves, Usable, Changes, Answers};
+ghost use Rattle.areas.specs.Make.{roomChecked, makeChecked};
 
-// Whether a size is 0, or above the scratch words that are left.
-fn no_room(left: u64, r: u64) -> bool
-    ensures { λ n. ⌜ n ≡ (eqb r 0 || ltb left r) ⌝ }
-{
-    if r == 0 {
-        return true;
-    }
-    left < r
+// The first block of a new scope's room, or the refusal of the call.
+pub enum Checked {
+    Passed(usize),
+    Refused(u64),
 }
 
-fn check_make(words: &Words, bytes: &Bytes, t: u64, q: u64, r: u64) -> u64
+// Refusal 8, or the first block of the room for r words: of the lowest run of free blocks that holds them. A size that
+// all blocks together do not hold is told first, so that no sum wraps.
+fn find_room(words: &Words, bytes: &Bytes, r: u64) -> Checked
     requires { ⌜ Usable words bytes ⌝ }
-    ensures { λ n. ⌜ n ≡ makeRest (before words bytes) t q r ⌝ }
+    ensures { λ x. ⌜ x ≡ roomChecked (before words bytes) r ⌝ }
+{
+    let blocks = held_lengths::lengths_at(words).scratch / 16;
+    if r == 0 {
+        return Checked::Refused(8);
+    }
+    if 16 * blocks < r {
+        return Checked::Refused(8);
+    }
+    let first = held_blocks::lowest_free(words, ((r + 15) / 16) as usize, blocks as usize);
+    if first == blocks as usize {
+        return Checked::Refused(8);
+    }
+    Checked::Passed(first)
+}
+
+fn check_make(words: &Words, bytes: &Bytes, t: u64, q: u64, r: u64) -> Checked
+    requires { ⌜ Usable words bytes ⌝ }
+    ensures { λ x. ⌜ x ≡ makeChecked (before words bytes) t q r ⌝ }
 {
     let refusal = callers::check_thread(words, bytes, t);
     if refusal != 0 {
-        return refusal;
+        return Checked::Refused(refusal);
     }
     if q < 2 {
-        return 6;
+        return Checked::Refused(6);
     }
     if 64 <= q {
-        return 6;
+        return Checked::Refused(6);
     }
-    let made = held_areas::is_made(held_areas::area_at(words, q as usize), q);
-    let left = held_lengths::lengths_at(words).scratch - held_lengths::taken_at(words);
-    let lacking = no_room(left, r);
-    if made {
-        return 7;
+    if held_areas::is_made(held_areas::area_at(words, q as usize), q) {
+        return Checked::Refused(7);
     }
-    if lacking {
-        return 8;
-    }
-    0
+    find_room(words, bytes, r)
 }
 
-// A scope with its words.
-fn made(x: Area, start: u64, size: u64) -> Area
-    ensures { λ r. ⌜ r ≡ madeArea x start size ⌝ }
-{
-    let mut y = x;
-    y.start = start;
-    y.size = size;
-    y
-}
-
-// Scope q takes the next r unused scratch words.
-fn apply_make(words: &mut Words, bytes: &Bytes, q: usize, r: u64)
-    requires { ⌜ Usable words bytes × (q < 64) × (stateIn words bytes .taken + r ≤ stateIn words bytes .lengths .scratch) ⌝ }
+// Scope q gets the r words from its first block on, and its blocks are used.
+fn apply_make(words: &mut Words, bytes: &Bytes, t: u64, q: usize, r: u64, first: usize)
+    requires { ⌜ Usable words bytes × MakeOk (stateIn words bytes) t q r × (first ≡ roomFor (stateIn words bytes) r) ⌝ }
     ensures { λ u. ⌜ Leaves words bytes (makeState (before words bytes) q r) ⌝ }
 {
-    let taken = held_lengths::taken_at(words);
     let x = held_areas::area_at(words, q);
-    held_areas::put_area(words, q, made(x, taken, r));
-    held_lengths::put_taken(words, taken + r);
+    held_areas::put_area(words, q, held_areas::placed(x, 16 * first as u64, r));
+    held_blocks::mark_used(words, first, ((r + 15) / 16) as usize);
 }
 
 // After refusal 1.
@@ -73,11 +72,17 @@ pub fn make_on(words: &mut Words, bytes: &Bytes, t: u64, q: u64, r: u64) -> Answ
     requires { ⌜ Usable words bytes ⌝ }
     ensures { λ a. ⌜ Changes a words bytes (makeChange (before words bytes) t q r) ⌝ }
 {
-    let status = check_make(words, bytes, t, q, r);
-    if status == 0 {
-        apply_make(words, bytes, q as usize, r);
+    let checked = check_make(words, bytes, t, q, r);
+    match checked {
+        Checked::Refused(status) => Answer { status, value: 0 },
+        Checked::Passed(first) => {
+            apply_make(words, bytes, t, q as usize, r, first);
+            Answer {
+                status: 0,
+                value: 0,
+            }
+        }
     }
-    Answer { status, value: 0 }
 }
 
 pub fn make(

@@ -9,7 +9,7 @@ use lib.Bits.{bitAnd, bitOr, and-mask, and-high, or-add-and, or-shifted-r, and-l
 use lib.Pow.{pow-pos, pow-mono, pow-lt, pow-add, shl-lt, shr-shr, shr-mod, split, high, low, mod-pow-add, ones-lt, ones-split, high-ones}
 use Rattle.bitmap.specs.Bitmap.{digit, withDigit, withoutDigit}
 
-twice : (k : ℕ) → 2 ^ suc k ≡ 2 * 2 ^ k
+pub twice : (k : ℕ) → 2 ^ suc k ≡ 2 * 2 ^ k
 twice k = omega (arith, pow-suc 2 k)
 
 -- `1 << k`
@@ -23,7 +23,7 @@ and-pow x k =
     rw e at (and-high x 1 k)
 
 -- of a digit and its complement, exactly one counts
-one-of : (d p : ℕ) → d < 2 → (1 - d) * p + d * p ≡ p
+pub one-of : (d p : ℕ) → d < 2 → (1 - d) * p + d * p ≡ p
 one-of zero p h = omega arith
 one-of (suc zero) p h = omega arith
 one-of (suc (suc d)) p h = omega arith
@@ -89,12 +89,12 @@ unfoldable pub withoutDigits : ℕ → ℕ → ℕ → ℕ
 withoutDigits x k n = x - digits x k n * 2 ^ k
 
 -- what stands above the digits, and what stands below them
-above-below : (x k n : ℕ) → withoutDigits x k n ≡ x / 2 ^ (k + n) * 2 ^ (k + n) + x % 2 ^ k
+pub above-below : (x k n : ℕ) → withoutDigits x k n ≡ x / 2 ^ (k + n) * 2 ^ (k + n) + x % 2 ^ k
 unfolding withoutDigits
 above-below x k n = rw (add-comm k n) (omega (arith, split x (n + k), mod-pow-add x n k))
 
 -- h pieces of size p: the pairs of them, and the one left over
-halved : (h p : ℕ) → h * p ≡ h / 2 * (2 * p) + h % 2 * p
+pub halved : (h p : ℕ) → h * p ≡ h / 2 * (2 * p) + h % 2 * p
 halved h p = omega (arith, ap (λ (y : ℕ). y * p) (div-add-mod' h 2), add-mul (h / 2 * 2) (h % 2) p)
 
 -- one digit goes after another

@@ -1,4 +1,4 @@
--- The start map: definitions that the contracts cite, and the laws that callers use of them.
+-- Maps of bits: definitions that the contracts cite, and the laws that callers use of them.
 pub mod Bitmap
 pub mod Digits
 pub mod BitmapLaws

@@ -7,7 +7,7 @@ use Prim.Native.Nat.{ℕ, zero, suc, _+_, _-_, _*_, _/_, _%_, _^_, _≤_, _<_}
 use native.Mathlib.Omega.{arith}
 use lib.ListN.{length, getD}
 use lib.Seq.{getD-set-same, getD-set-other, set-set, set-comm}
-use Rattle.bitmap.specs.Bitmap.{digit, withDigit, withoutDigit, withBit, withoutBit, cleared}
+use Rattle.bitmap.specs.Bitmap.{digit, withDigit, withoutDigit, onBit, withBit, onBits, cleared}
 use Rattle.bitmap.specs.Digits.{with-other, without-same, without-other, digit-le}
 use Rattle.bitmap.specs.BitmapLaws.{length-cleared, same?}
 
@@ -24,12 +24,12 @@ with-without-other : (x j k : ℕ) → j ≢ k → withDigit (withoutDigit x j) 
 with-without-other x j k ne = rw (without-other x j k (λ e. ne (sym e)), with-other x k j ne) (omega (arith, digit-le x j))
 
 -- the same of a bit
-set-cleared : (m : List ℕ) (w : ℕ) → w / 64 < length m → withBit (withoutBit m w) w ≡ withBit m w
-unfolding withBit withoutBit
+set-cleared : (m : List ℕ) (w : ℕ) → w / 64 < length m → withBit (onBit withoutDigit m w) w ≡ withBit m w
+unfolding withBit
 set-cleared m w h = rw (getD-set-same m (w / 64) _ 0 h, set-set, with-without (getD m (w / 64) 0) (w % 64))
 
-set-cleared-other : (m : List ℕ) (v w : ℕ) → v ≢ w → v / 64 < length m → w / 64 < length m → withBit (withoutBit m v) w ≡ withoutBit (withBit m w) v
-unfolding withBit withoutBit
+set-cleared-other : (m : List ℕ) (v w : ℕ) → v ≢ w → v / 64 < length m → w / 64 < length m → withBit (onBit withoutDigit m v) w ≡ onBit withoutDigit (withBit m w) v
+unfolding withBit
 set-cleared-other m v w ne hv hw =
     ⊎-elim
     (λ e. rw e (rw (
@@ -44,7 +44,7 @@ set-cleared-other m v w ne hv hw =
 
 -- the same of the first bit of a run
 pub marked-run : (m : List ℕ) (w n : ℕ) → w + suc n ≤ 64 * length m → withBit (cleared m w (suc n)) w ≡ withBit (cleared m (suc w) n) w
-unfolding cleared
+unfolding onBits
 marked-run m w zero h =
     let e : w + 0 ≡ w = omega arith in
     rw e (set-cleared m w (omega arith))

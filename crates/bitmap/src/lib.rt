@@ -1,4 +1,5 @@
-// The start map and the written map: bit w mod 64 of map word w / 64, read and written in place on the lent map.
+// Maps of bits, which are the start map, the written map and the used bits: bit w mod 64 of map word w / 64, read and written
+// in place.
 // Each function asks that its bits lie in the map: a caller has compared its length first.
 ghost use mathlib.Core.Path.{_≡_};
 ghost use Prim.Native.Nat.{suc, _+_, _-_, _*_, _/_, _%_, _<_, _≤_};

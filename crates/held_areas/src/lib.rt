@@ -4,7 +4,7 @@ use tables::AREA_WORDS;
 use tables::Words;
 ghost use mathlib.Core.Path.{_≡_};
 ghost use Prim.Native.Nat.{_<_};
-ghost use Rattle.model.specs.State.{madeAs};
+ghost use Rattle.model.specs.State.{madeAs, withWords};
 ghost use Rattle.model.specs.Scopes.{reentered};
 ghost use Rattle.tables.specs.Decode.{areaCount, areaRecord, putArea};
 
@@ -56,5 +56,15 @@ pub fn reentered(x: Area) -> Area
 {
     let mut y = x;
     y.count = x.count + 1;
+    y
+}
+
+// An area with its words elsewhere, and of another size.
+pub fn placed(x: Area, start: u64, size: u64) -> Area
+    ensures { λ r. ⌜ r ≡ withWords x start size ⌝ }
+{
+    let mut y = x;
+    y.start = start;
+    y.size = size;
     y
 }

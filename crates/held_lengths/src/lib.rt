@@ -1,10 +1,9 @@
-// The three lengths of set-up in the tables, and the number of scratch words taken.
+// The three lengths of set-up in the tables.
 use model::Lengths;
 use tables::LENGTHS_AT;
-use tables::TAKEN_AT;
 use tables::Words;
 ghost use mathlib.Core.Path.{_≡_};
-ghost use Rattle.tables.specs.Decode.{lengthsRecord, putLengths, takenOf, putTaken};
+ghost use Rattle.tables.specs.Decode.{lengthsRecord, putLengths};
 
 pub fn lengths_at(words: &Words) -> Lengths
     ensures { λ r. ⌜ r ≡ lengthsRecord (now (words .entry)) ⌝ }
@@ -22,16 +21,4 @@ pub fn put_lengths(words: &mut Words, n: Lengths)
     words[LENGTHS_AT] = n.permanent;
     words[LENGTHS_AT + 1] = n.scratch;
     words[LENGTHS_AT + 2] = n.map;
-}
-
-pub fn taken_at(words: &Words) -> u64
-    ensures { λ r. ⌜ r ≡ takenOf (now (words .entry)) ⌝ }
-{
-    words[TAKEN_AT]
-}
-
-pub fn put_taken(words: &mut Words, n: u64)
-    ensures { λ r. ⌜ now (words .exit) ≡ putTaken (now (words .entry)) n ⌝ }
-{
-    words[TAKEN_AT] = n;
 }

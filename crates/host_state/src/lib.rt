@@ -1,6 +1,6 @@
-// The core for C and Rust, first part: set-up, and ops 01 to 05 and 0b: threads start and end, also as helpers
-// with their starters' stacks, scopes are made, entered and left. One exported function for each call, thin over
-// the crate that has it.
+// The core for C and Rust, first part: set-up, and ops 01 to 05, 0b and 0c: threads start and end, also as helpers
+// with their starters' stacks, scopes are made, entered, left and removed. One exported function for each call, thin
+// over the crate that has it.
 //
 // The host keeps the two tables of the state, `words` and `bytes`, and the four buffers, and lends
 // them to each call. Beside that a call asks one thing, `Usable`: that the tables are those that
@@ -137,6 +137,24 @@ pub extern "C" fn scopes_make(
         area,
         size,
     )
+}
+
+// Op 0c: a scope is removed.
+#[no_mangle]
+pub extern "C" fn scopes_remove(
+    words: &mut Words,
+    bytes: &Bytes,
+    permanent: &[u64],
+    scratch: &[u64],
+    map: &[u64],
+    written: &[u64],
+    t: u64,
+    q: u64,
+) -> Answer
+    requires { ⌜ Usable words bytes ⌝ }
+    ensures { λ r. ⌜ Answers r words bytes permanent scratch map written (calls.remove t q) ⌝ }
+{
+    removal::remove(words, bytes, permanent, scratch, map, written, t, q)
 }
 
 // Op 04: an area is entered; the value is its generation.

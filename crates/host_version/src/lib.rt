@@ -3,8 +3,8 @@
 ghost use mathlib.Core.Path.{_≡_};
 ghost use Rattle.host_version.specs.Version.{version};
 
-// Version 0.4.0.
-const VERSION: u64 = 4000;
+// Version 0.5.0.
+const VERSION: u64 = 5000;
 
 // The version as one number: major * 1,000,000 + minor * 1,000 + patch.
 #[no_mangle]

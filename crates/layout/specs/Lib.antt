@@ -1,5 +1,6 @@
 -- The definitions that the contracts cite, and the laws that callers use of them.
 pub mod Choice
+pub mod Verdict
 pub mod Below
 pub mod Handle
 pub mod Header

@@ -10,13 +10,17 @@ use borrow.Author.Tests.{ltb-true, ltb-false, leb-false, eqb-true, eqb-false, lt
 use Rattle.layout.specs.Choice.{peel, and-true, and-false, or-false}
 use Rattle.layout.specs.Handle.{null, areaOf}
 use Rattle.layout.specs.Header.{slotsOf, dataOf}
+use Rattle.bitmap.specs.Bitmap.{bitAt}
+use Rattle.runs.specs.LowestRun.{isClear, Lowest, lowest-run}
 use Rattle.rights.specs.Rights.{isTable, Loadable}
 use Rattle.rights.specs.Loading.{table-loadable}
-use Rattle.model.specs.State.{State, Memory, areaAt, threadAt, stackAt, innermost, isMade, isOpen}
+use Rattle.model.specs.State.{State, Memory, areaAt, threadAt, stackAt, innermost, isNoScope, isMade, isOpen}
+use Rattle.model.specs.Blocks.{blockCount, blocksFor, roomFor, noRoom}
 use Rattle.model.specs.Checks.{fits, fitted, called, admit, headerAt, live, isObject, isReference, useRest}
 use Rattle.model.specs.Threads.{isKind, startable, startRest, endRest}
 use Rattle.model.specs.Scopes.{makeRest, lastGeneration, otherParent, generationsOut, enterRest, exitRest}
 use Rattle.model.specs.Helpers.{helperRest}
+use Rattle.model.specs.Removal.{removeRest}
 use Rattle.model.specs.Objects.{currentAt, allocateRest}
 use Rattle.model.specs.References.{mayRefer, slotRest, referenceRest, storeRest}
 use Rattle.model.specs.Data.{dataRest}
@@ -90,7 +94,13 @@ module _ (s : State) (t : ℕ) where
     pub area : q < 64
     pub unmade : areaAt s q .size ≡ 0
     pub some : 0 < r
-    pub room : s .taken + r ≤ s .lengths .scratch
+    pub ends : roomFor s r + blocksFor r ≤ blockCount s
+    pub clear : (k : ℕ) → k < blocksFor r → bitAt (s .usedBits) (roomFor s r + k) ≡ 0
+
+  -- the room of a new scope is the lowest run
+  pub lowest-room : (r : ℕ) → 0 < r → Lowest (isClear (s .usedBits)) (blocksFor r) (blockCount s) (roomFor s r)
+  unfolding roomFor
+  lowest-room r h = lowest-run (isClear (s .usedBits)) (blocksFor r) (blockCount s) (omega arith)
 
   pub make-ok : (q r : ℕ) → makeRest s t q r ≡ 0 → MakeOk q r
   unfolding makeRest isMade
@@ -103,13 +113,41 @@ module _ (s : State) (t : ℕ) where
       let g = or-false (ltb q 2) _ (c .0) in
       let h = or-false (eqb r 0) _ (d .0) in
       let ne : r ≡ 0 → ⊥ = eqb-false r 0 (h .0) in
+      let there : roomFor s r ≡ blockCount s → ⊥ = eqb-false (roomFor s r) (blockCount s) (h .1) in
+      let low = lowest-room r (omega arith) in
       record {
         called = a .0;
         scope = omega (arith, ltb-false);
         area = omega (arith, leb-false);
         unmade = omega (arith, ltb-false);
         some = omega arith;
-        room = omega (arith, ltb-false);
+        ends = low .ends there;
+        clear = λ k l. eqb-true (bitAt (s .usedBits) (roomFor s r + k)) 0 (low .run there k l);
+      }
+
+  -- op 0c
+  pub record RemoveOk (q : ℕ) : Type 0 where
+    pub called : Called
+    pub scope : 2 ≤ q
+    pub area : q < 64
+    pub made : 0 < areaAt s q .size
+    pub closed : areaAt s q .count ≡ 0
+
+  pub remove-ok : (q : ℕ) → removeRest s t q ≡ 0 → RemoveOk q
+  unfolding removeRest isMade
+  remove-ok q e =
+      let a = called-ok _ e in
+      let b = peel _ _ _ (a .1) in
+      let c = peel _ _ _ (b .1) in
+      let f = or-false (isNoScope q) _ (b .0) in
+      let g = or-false (ltb q 2) _ (f .0) in
+      let low : 2 ≤ q = ltb-false q 2 (g .0) in
+      record {
+        called = a .0;
+        scope = low;
+        area = omega (arith, leb-false);
+        made = ltb-true 0 (areaAt s q .size) (rw (le-ltb q 2 low) at (not-false (isMade s q) (f .1)));
+        closed = omega (arith, ltb-false);
       }
 
   -- op 04

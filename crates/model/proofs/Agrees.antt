@@ -12,23 +12,25 @@ use borrow.Author.Tests.{eqb-true, eqb-false, eq-eqb, ne-eqb, ltb-true, ltb-fals
 use Rattle.layout.specs.Choice.{cases}
 use Rattle.model.specs.declared.Area.{Area}
 use Rattle.model.specs.declared.Lengths.{Lengths}
-use Rattle.model.specs.State.{Thread, State, Memory, noThread, areaAt, threadAt, withKind, withArea, withThread, withTaken, entriesOf, stackAt, innermost}
+use Rattle.model.specs.State.{Thread, State, Memory, noThread, areaAt, threadAt, withKind, withArea, withThread, withUsedBits, entriesOf, stackAt, innermost}
 use Rattle.model.specs.SetUp.{newThread, firstState}
 use Rattle.model.specs.Threads.{startState, endState}
 use Rattle.model.specs.Scopes.{makeState, pushed, enterState, popped, exitState}
 use Rattle.model.specs.Helpers.{helperState}
+use Rattle.model.specs.Blocks.{withUsedBlocks, withFreeBlocks}
+use Rattle.model.specs.Removal.{removeState}
 use Rattle.model.specs.Objects.{currentAt, allocateState}
-use Rattle.model.specs.Calls.{Call, start, end, make, enter, exit, startHelper, allocate, store, write, asks, configure, callStatus, callState}
-use Rattle.model.specs.History.{Object, History, blank, threadRow, occurrences, total, historyThread, historyStart, historyHelper, historyEnter, historyExit, historyAllocate, historyStep}
+use Rattle.model.specs.Calls.{Call, start, end, make, enter, exit, startHelper, remove, allocate, store, write, asks, configure, callStatus, callState}
+use Rattle.model.specs.History.{Object, History, blank, threadRow, occurrences, total, historyThread, historyStart, historyHelper, historySize, historyEnter, historyExit, historyAllocate, historyStep}
 use Rattle.model.specs.Invariant.{parentIn, stacksIn, Good}
-use Rattle.model.proofs.Accepted.{fitted-ok, start-ok, end-ok, make-ok, MakeOk, enter-ok, EnterOk, exit-ok, ExitOk, helper-ok, HelperOk, allocate-ok, AllocateOk}
+use Rattle.model.proofs.Accepted.{fitted-ok, start-ok, end-ok, make-ok, MakeOk, enter-ok, EnterOk, exit-ok, ExitOk, helper-ok, HelperOk, remove-ok, RemoveOk, allocate-ok, AllocateOk}
 use Rattle.model.proofs.Lists.{total-set, occ-same, map-set}
 use Rattle.model.proofs.Memory.{put-same, put-other}
 use Rattle.model.proofs.Sound.{Same, same-words}
 use Rattle.model.proofs.Parts.{stack-is}
 use Rattle.model.proofs.Stacks.{stack-none}
 use Rattle.model.proofs.Bounds.{by-area, current-area}
-use Rattle.model.proofs.Alters.{same-field, make-alters, allocate-alters, enter-stays, open-alters, fresh-alters, enter-others, by-left, exit-stays, exit-others}
+use Rattle.model.proofs.Alters.{same-field, make-alters, remove-alters, allocate-alters, enter-stays, open-alters, fresh-alters, enter-others, by-left, exit-stays, exit-others}
 use Rattle.model.proofs.KeepsThreads.{idle-empty}
 use Rattle.model.proofs.KeepsEnter.{enter-thread, enter-thread-other, enter-stacks}
 use Rattle.model.proofs.KeepsExit.{exit-thread, exit-thread-other, top-area, exit-more-area, exit-last-area, pop-is, exit-stacks}
@@ -190,14 +192,22 @@ same-helper s t p q g ok b e = rw row at (same-thread s g b e q (ok .helper .thr
     row : stackAt s t ≡ threadRow b t
     row = sym (stack-is s t) ∙ ap (λ (r : List (List ℕ)). getD r t []) (e .rows)
 
--- ---- words are given
+-- ---- words are given, and taken back
 
-same-make : (s : State) (t q r : ℕ) → Good s → MakeOk s t q r → (b : History) → Same s b → Same (makeState s q r) b
-unfolding makeState withTaken withArea
+same-make : (s : State) (t q r : ℕ) → Good s → MakeOk s t q r → (b : History) → Same s b → Same (makeState s q r) (historySize b q r)
+unfolding makeState withUsedBlocks withUsedBits withArea historySize
 same-make s t q r g ok b e = record {
   kinds = e .kinds;
   rows = e .rows;
   parents = λ a. same-field (make-alters s (g .areas) q (ok .area) r) (λ (x : Area). x .parent) refl a ∙ e .parents a;
+}
+
+same-remove : (s : State) (t q : ℕ) → Good s → RemoveOk s t q → (b : History) → Same s b → Same (removeState s q) (historySize b q 0)
+unfolding removeState withFreeBlocks withUsedBits withArea historySize
+same-remove s t q g ok b e = record {
+  kinds = e .kinds;
+  rows = e .rows;
+  parents = λ a. same-field (remove-alters s (g .areas) q (ok .area)) (λ (x : Area). x .parent) refl a ∙ e .parents a;
 }
 
 same-allocate : (s : State) (t slots dataWords : ℕ) → Good s → AllocateOk s t slots dataWords → (b : History) (o : Object) → Same s b
@@ -222,6 +232,7 @@ same-call s m b (make t q r) v g e z = same-make s t q r g (make-ok s t q r (fit
 same-call s m b (enter t q) v g e z = same-enter s t q g (enter-ok s t q (fitted-ok s m _ z .1)) b e
 same-call s m b (exit t) v g e z = same-exit s t g (exit-ok s t (fitted-ok s m _ z .1)) b e
 same-call s m b (startHelper t p q) v g e z = same-helper s t p q g (helper-ok s t p q (fitted-ok s m _ z .1)) b e
+same-call s m b (remove t q) v g e z = same-remove s t q g (remove-ok s t q (fitted-ok s m _ z .1)) b e
 same-call s m b (allocate t q r) v g e z = same-allocate s t q r g (allocate-ok s t q r (fitted-ok s m _ z .1)) b _ e
 same-call s m b (store t p q r) v g e z = same-words s b _ _ e
 same-call s m b (write t p q r) v g e z = same-words s b _ _ e

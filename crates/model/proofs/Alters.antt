@@ -11,10 +11,12 @@ use borrow.Author.Tests.{eqb-true, eqb-false, leb-true, leb-false, le-leb, lt-le
 use Rattle.layout.specs.Choice.{cases}
 use Rattle.layout.specs.Display.{extendedRow}
 use Rattle.model.specs.declared.Area.{Area}
-use Rattle.model.specs.State.{Thread, State, areaAt, rowAt, threadAt, withCount, withKind, withArea, withRow, withThread, withTaken, stackAt, innermost}
+use Rattle.model.specs.State.{Thread, State, areaAt, rowAt, threadAt, withCount, withKind, withArea, withRow, withThread, withUsedBits, stackAt, innermost}
+use Rattle.model.specs.Blocks.{roomFor, withUsedBlocks, withFreeBlocks}
 use Rattle.model.specs.Threads.{startState, endState}
 use Rattle.model.specs.Scopes.{madeArea, makeState, reentered, opened, enteredArea, pushed, enterState, left, leftArea, popped, exitState}
 use Rattle.model.specs.Helpers.{raisedArea, raised, helperState}
+use Rattle.model.specs.Removal.{removedArea, removeState}
 use Rattle.model.specs.Objects.{currentAt, grown, allocateState}
 use Rattle.model.specs.History.{occurrences}
 use Rattle.model.proofs.Lists.{occ-nil, occ-same, occ-other, occ-more}
@@ -68,22 +70,35 @@ module _ (s : State) where
   unfolding endState
   end-stays t = stays t (withKind (threadAt s t) 0)
 
-  -- ---- ops 03 and 06
+  -- ---- ops 03, 0c and 06
 
   module _ (w : length (s .areas) ≡ 64) (q : ℕ) (h : q < 64) where
-    pub make-alters : (r : ℕ) → Alters s (makeState s q r) q (madeArea (areaAt s q) (s .taken) r)
-    unfolding makeState withTaken
-    make-alters r =
-        let y = alters w q h (madeArea (areaAt s q) (s .taken) r) in
+    -- an area is replaced, and the used bits
+    alters-bits : (x : Area) (u : List ℕ) → Alters s (withUsedBits (withArea s q x) u) q x
+    unfolding withUsedBits
+    alters-bits x u =
+        let y = alters w q h x in
         record { lengths = y .lengths; here = y .here; others = λ a ne. record { area = y .others a ne .area; row = y .others a ne .row } }
+
+    pub make-alters : (r : ℕ) → Alters s (makeState s q r) q (madeArea (areaAt s q) (roomFor s r) r)
+    unfolding makeState withUsedBlocks
+    make-alters r = alters-bits (madeArea (areaAt s q) (roomFor s r) r) _
+
+    pub remove-alters : Alters s (removeState s q) q (removedArea (areaAt s q))
+    unfolding removeState withFreeBlocks
+    remove-alters = alters-bits (removedArea (areaAt s q)) _
 
     pub allocate-alters : (slots dataWords : ℕ) → Alters s (allocateState s q slots dataWords) q (grown (areaAt s q) (suc (areaAt s q .used + slots + dataWords)))
     unfolding allocateState
     allocate-alters slots dataWords = alters w q h (grown (areaAt s q) (suc (areaAt s q .used + slots + dataWords)))
 
   pub make-rows : (q r a : ℕ) → rowAt (makeState s q r) a ≡ rowAt s a
-  unfolding makeState withTaken withArea
+  unfolding makeState withUsedBlocks withUsedBits withArea
   make-rows q r a = refl
+
+  pub remove-rows : (q a : ℕ) → rowAt (removeState s q) a ≡ rowAt s a
+  unfolding removeState withFreeBlocks withUsedBits withArea
+  remove-rows q a = refl
 
   pub allocate-rows : (q slots dataWords a : ℕ) → rowAt (allocateState s q slots dataWords) a ≡ rowAt s a
   unfolding allocateState withArea

@@ -33,9 +33,9 @@ entry-bounds = refl
 
 -- ---- scopes
 
--- 6 in op 03: areas 0, 1, 4, 63 and 64; 7: a scope that is made; 8: sizes 0, 1, 2 and 3 of 2 unused words
+-- 6 in op 03: areas 0, 1, 4, 63 and 64; 7: a scope that is made; 8: sizes 0, 16 and 17 of one free block
 pub make-bounds : each busy
-    (make 2 0 1 ∷ make 2 1 1 ∷ make 2 4 1 ∷ make 2 63 1 ∷ make 2 64 1 ∷ make 2 3 1 ∷ make 2 4 0 ∷ make 2 4 2 ∷ make 2 4 3 ∷ [])
+    (make 2 0 1 ∷ make 2 1 1 ∷ make 2 4 1 ∷ make 2 63 1 ∷ make 2 64 1 ∷ make 2 3 1 ∷ make 2 4 0 ∷ make 2 4 16 ∷ make 2 4 17 ∷ [])
     ≡ 6 ∷ 6 ∷ 0 ∷ 0 ∷ 6 ∷ 7 ∷ 8 ∷ 0 ∷ 8 ∷ []
 unfolding each busy
 make-bounds = refl
@@ -135,8 +135,8 @@ sibling-bounds = refl
 pub ofLengths : ℕ → ℕ → ℕ → ℕ → ℕ
 ofLengths p s m w = status (supplied busy (record { permanent = copies p 0; scratch = copies s 0; map = copies m 0; written = copies w 0 })) (start 4 2)
 
-pub length-bounds : ofLengths 9 12 1 1 ∷ ofLengths 8 12 1 1 ∷ ofLengths 10 12 1 1 ∷ ofLengths 9 11 1 1 ∷ ofLengths 9 13 1 1
-    ∷ ofLengths 9 12 0 1 ∷ ofLengths 9 12 2 1 ∷ ofLengths 9 12 1 0 ∷ ofLengths 9 12 1 2 ∷ ofLengths 9 12 2 2 ∷ []
+pub length-bounds : ofLengths 9 52 1 1 ∷ ofLengths 8 52 1 1 ∷ ofLengths 10 52 1 1 ∷ ofLengths 9 51 1 1 ∷ ofLengths 9 53 1 1
+    ∷ ofLengths 9 52 0 1 ∷ ofLengths 9 52 2 1 ∷ ofLengths 9 52 1 0 ∷ ofLengths 9 52 1 2 ∷ ofLengths 9 52 2 2 ∷ []
     ≡ 0 ∷ 1 ∷ 1 ∷ 1 ∷ 1
     ∷ 1 ∷ 1 ∷ 1 ∷ 1 ∷ 1 ∷ []
 unfolding ofLengths status busy

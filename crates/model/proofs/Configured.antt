@@ -11,15 +11,17 @@ use Rattle.layout.specs.Choice.{refuse, cases}
 use Rattle.layout.specs.Below.{someBelow}
 use Rattle.rights.specs.Rights.{isTable}
 use Rattle.model.specs.declared.Lengths.{Lengths}
-use Rattle.model.specs.State.{State, Memory, withArea, withRow, withThread, withTaken, withRights, isOpen, isScope, current, stackAt}
+use Rattle.model.specs.State.{State, Memory, withArea, withRow, withThread, withUsedBits, withRights, isOpen, isScope, current, stackAt}
 use Rattle.model.specs.SetUp.{firstState}
 use Rattle.model.specs.Checks.{called}
 use Rattle.model.specs.Threads.{startable, startState, endState}
 use Rattle.model.specs.Scopes.{makeState, enteredArea, enterState, leftArea, exitState}
+use Rattle.model.specs.Blocks.{withUsedBlocks, withFreeBlocks}
 use Rattle.model.specs.Helpers.{helperRest, helperState}
+use Rattle.model.specs.Removal.{removeState}
 use Rattle.model.specs.Objects.{allocateState}
 use Rattle.model.specs.Configuration.{anyStarted, loadRightsStatus, loadRightsState}
-use Rattle.model.specs.Calls.{Call, start, end, make, enter, exit, startHelper, allocate, store, write, asks, Configuration, rightsTable, configure, loadRights, configuring, callStatus, callState}
+use Rattle.model.specs.Calls.{Call, start, end, make, enter, exit, startHelper, remove, allocate, store, write, asks, Configuration, rightsTable, configure, loadRights, configuring, callStatus, callState}
 use Rattle.model.specs.Run.{Line}
 use Rattle.model.specs.History.{History, historyOf}
 use Rattle.model.specs.Values.{loadAnswer, configuredTable, tableStep, tableLine, tableAfter, helperAnswer}
@@ -43,13 +45,14 @@ unfolding leftArea withArea
 left s q = cases (isScope q) (λ e. rw e refl) (λ e. rw e refl)
 
 table-call : (s : State) (m : Memory) (c : Call) → callState s m c .rights ≡ tableStep (s .rights) c
-unfolding startState endState makeState enterState exitState helperState allocateState withArea withThread withTaken
+unfolding startState endState makeState enterState exitState helperState removeState allocateState withArea withThread withUsedBits withUsedBlocks withFreeBlocks
 table-call s m (start t p) = refl
 table-call s m (end t) = refl
 table-call s m (make t q r) = refl
 table-call s m (enter t q) = entered s q _
 table-call s m (exit t) = left s (current (stackAt s t))
 table-call s m (startHelper t p q) = raised-keeps s (λ (r : State). r .rights) (λ r x y. refl) (stackAt s t)
+table-call s m (remove t q) = refl
 table-call s m (allocate t q r) = refl
 table-call s m (store t p q r) = refl
 table-call s m (write t p q r) = refl

@@ -1,27 +1,30 @@
 -- Set-up gives the invariant of the state, and every call keeps it, refused or not.
 -- Assumes nothing.
-use Prim.Native.Nat.{ℕ, zero, suc, _+_, _/_, _≤_, _<_}
+use Prim.Native.Nat.{ℕ, zero, suc, _+_, _/_, _%_, _^_, _≤_, _<_}
 use mathlib.Core.Bool.{not}
 use mathlib.Core.List.{List, []}
 use mathlib.Core.Path.{_≡_, refl, sym, ap, _∙_}
-use lib.ListN.{length, replicate, length-replicate, getD-replicate, List·getD-eq-default}
+use lib.ListN.{length, getD, replicate, length-replicate, getD-replicate, List·getD-eq-default}
 use lib.Dec.{eqb, ltb}
+use native.Mathlib.Nat.{div-le-self}
 use native.Mathlib.Omega.{arith}
 use borrow.Author.Tests.{eqb-true, ltb-true, ltb-false, not-false}
 use Rattle.layout.specs.Choice.{refuse, cases, peel}
 use Rattle.layout.specs.Stack.{down}
+use Rattle.bitmap.specs.Bitmap.{bitAt}
 use Rattle.rights.specs.Loading.{built-in-loadable}
 use Rattle.model.specs.declared.Area.{Area}
 use Rattle.model.specs.declared.Lengths.{Lengths}
 use Rattle.model.specs.State.{State, Memory, noArea, noThread, areaAt, entriesOf}
 use Rattle.model.specs.SetUp.{setUpStatus, newThread, firstState, setUpState}
-use Rattle.model.specs.Calls.{Call, start, end, make, enter, exit, startHelper, allocate, store, write, asks, configure, callStatus, callState, outcomeOf}
+use Rattle.model.specs.Calls.{Call, start, end, make, enter, exit, startHelper, remove, allocate, store, write, asks, configure, callStatus, callState, outcomeOf}
 use Rattle.model.specs.History.{occurrences, total}
 use Rattle.model.specs.Invariant.{ThreadGood, StandingGood, ScopeGood, Placed, stacksIn, Good}
-use Rattle.model.proofs.Accepted.{fitted-ok, start-ok, end-ok, make-ok, enter-ok, exit-ok, helper-ok, allocate-ok}
+use Rattle.model.proofs.Accepted.{fitted-ok, start-ok, end-ok, make-ok, enter-ok, exit-ok, helper-ok, remove-ok, allocate-ok}
 use Rattle.model.proofs.Lists.{each-replicate}
 use Rattle.model.proofs.KeepsThreads.{good-start, good-end}
-use Rattle.model.proofs.KeepsObjects.{good-make, good-allocate}
+use Rattle.model.proofs.KeepsObjects.{good-allocate}
+use Rattle.model.proofs.KeepsScopes.{good-make, good-remove}
 use Rattle.model.proofs.KeepsEnter.{good-enter}
 use Rattle.model.proofs.KeepsExit.{good-exit}
 use Rattle.model.proofs.KeepsHelper.{good-helper}
@@ -40,6 +43,15 @@ pub record Begins (x : Area) : Type 0 where
 none-on : (a : ℕ) → total a (replicate 16 []) ≡ 0
 unfolding total occurrences
 none-on a = refl
+
+-- words of zeros have no digit
+zeros : (n i : ℕ) → _≡_ {A = ℕ} (getD (replicate n 0) i 0) 0
+zeros zero i = refl
+zeros (suc n) zero = refl
+zeros (suc n) (suc i) = zeros n i
+
+zero-digit : (k : ℕ) → 0 / 2 ^ k % 2 ≡ 0
+zero-digit k = omega (arith, div-le-self 0 (2 ^ k))
 
 module _ (h i : ℕ) (n : Lengths) where
   -- an accepted set-up has passed these
@@ -93,6 +105,11 @@ module _ (h i : ℕ) (n : Lengths) where
   first-area (suc zero) = record { used = refl; count = refl; parent = refl; depth = refl }
   first-area (suc (suc a)) = rw (first-scope (suc (suc a)) (omega arith)) record { used = refl; count = refl; parent = refl; depth = refl }
 
+  -- no block is used
+  first-clear : (k : ℕ) → bitAt (replicate 16 0) k ≡ 0
+  unfolding bitAt
+  first-clear k = rw (zeros 16 (k / 64)) (zero-digit (k % 64))
+
   first-placed : SetUpOk → Placed (firstState h i n)
   unfolding firstState
   first-placed ok = record {
@@ -102,10 +119,13 @@ module _ (h i : ℕ) (n : Lengths) where
     heap = refl;
     immortal = refl;
     whole = ok .whole;
-    taken = omega arith;
+    bits = refl;
+    aligned = λ a k l. rw (first-scope a k) refl;
     below = λ a k l. rw (first-scope a k) (omega arith);
     used = λ a l. omega (arith, first-area a .used);
     apart = λ a c ha ka hc kc ne j k hj hk. absurd (omega (arith, ap (λ (x : Area). x .size) (first-scope a ha)));
+    held = λ a k l j b. absurd (omega (arith, rw (first-scope a k) at b));
+    owned = λ k b. absurd (b (first-clear k));
   }
 
   pub good-first : (k : ℕ) → setUpStatus h i n k ≡ 0 → Good (firstState h i n)
@@ -152,6 +172,7 @@ good-call s m (make t q r) g e = good-make s t q r g (make-ok s t q r (fitted-ok
 good-call s m (enter t q) g e = good-enter s t q g (enter-ok s t q (fitted-ok s m _ e .1))
 good-call s m (exit t) g e = good-exit s t g (exit-ok s t (fitted-ok s m _ e .1))
 good-call s m (startHelper t p q) g e = good-helper s t p q g (helper-ok s t p q (fitted-ok s m _ e .1))
+good-call s m (remove t q) g e = good-remove s t q g (remove-ok s t q (fitted-ok s m _ e .1))
 good-call s m (allocate t q r) g e = good-allocate s t q r g (allocate-ok s t q r (fitted-ok s m _ e .1))
 good-call s m (store t p q r) g e = g
 good-call s m (write t p q r) g e = g

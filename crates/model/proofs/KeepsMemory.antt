@@ -13,14 +13,14 @@ use Rattle.model.specs.SetUp.{lengthsOf, setUpStatus, begins, firstState
 use Rattle.model.specs.Checks.{fits}
 use Rattle.model.specs.References.{storeAfter}
 use Rattle.model.specs.Data.{writeMemory}
-use Rattle.model.specs.Calls.{Call, start, end, make, enter, exit, startHelper, allocate, store, write, asks, configure, callStatus, callValue, callState, callMemory}
+use Rattle.model.specs.Calls.{Call, start, end, make, enter, exit, startHelper, remove, allocate, store, write, asks, configure, callStatus, callValue, callState, callMemory}
 use Rattle.model.specs.History.{History, blank, historyStep}
 use Rattle.model.specs.Invariant.{Good}
-use Rattle.model.proofs.Accepted.{fitted-ok, admitted, make-ok, enter-ok, exit-ok, helper-ok, allocate-ok, StoreOk, store-ok, DataOk, data-ok}
+use Rattle.model.proofs.Accepted.{fitted-ok, admitted, make-ok, enter-ok, exit-ok, helper-ok, remove-ok, allocate-ok, StoreOk, store-ok, DataOk, data-ok}
 use Rattle.model.proofs.Lists.{occ-nil}
 use Rattle.model.proofs.Sound.{Same, usedIn, Sound, sound-words}
 use Rattle.model.proofs.KeepsConfiguration.{configure-stays}
-use Rattle.model.proofs.MemoryScopes.{stays-sound, sound-start, sound-end, sound-make, sound-enter, sound-exit, sound-helper}
+use Rattle.model.proofs.MemoryScopes.{stays-sound, sound-start, sound-end, sound-make, sound-remove, sound-enter, sound-exit, sound-helper}
 use Rattle.model.proofs.MemoryWords.{sound-store, sound-write}
 use Rattle.model.proofs.MemoryObjects.{sound-allocate}
 
@@ -32,6 +32,7 @@ sound-call s m b (make t q r) o e g i = sound-make s m b o t q r (make-ok s t q 
 sound-call s m b (enter t q) o e g i = sound-enter s m b o t q (enter-ok s t q (fitted-ok s m _ e .1)) g i
 sound-call s m b (exit t) o e g i = sound-exit s m b o t (exit-ok s t (fitted-ok s m _ e .1)) g i
 sound-call s m b (startHelper t p q) o e g i = sound-helper s m b o t p q (helper-ok s t p q (fitted-ok s m _ e .1)) g i
+sound-call s m b (remove t q) o e g i = sound-remove s m b o t q (remove-ok s t q (fitted-ok s m _ e .1)) g i
 sound-call s m b (allocate t q r) o e g i = sound-allocate s m b o t q r (allocate-ok s t q r (fitted-ok s m _ e .1)) g i
 sound-call s m b (store t p q r) o e g i =
     let k : StoreOk s m t p q r = store-ok s m t p q r (admitted s m t _ e .1) in

@@ -7,6 +7,7 @@ pub mod BoundSamples
 pub mod MeetingSamples
 pub mod RightsSamples
 pub mod HelperSamples
+pub mod RemovalSamples
 pub mod Accepted
 pub mod Lists
 pub mod Nesting
@@ -20,6 +21,7 @@ pub mod Bounds
 pub mod Alters
 pub mod KeepsThreads
 pub mod KeepsObjects
+pub mod KeepsScopes
 pub mod KeepsEnter
 pub mod KeepsExit
 pub mod KeepsHelper
@@ -39,6 +41,7 @@ pub mod Outcomes
 pub mod Traces
 pub mod ValueMeanings
 pub mod Openings
+pub mod Sizes
 pub mod Stored
 pub mod Configured
 pub mod Readings

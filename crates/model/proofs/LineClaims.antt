@@ -11,15 +11,16 @@ use Rattle.layout.specs.Header.{dataOf}
 use Rattle.rights.specs.declared.Right.the-variants.{Use}
 use Rattle.model.specs.State.{State, Memory}
 use Rattle.model.specs.Checks.{hasRight, headerAt, live}
-use Rattle.model.specs.Calls.{Call, enter, exit, startHelper, load, read, loadRights, isSupplied, callStatus, callValue}
+use Rattle.model.specs.Calls.{Call, enter, exit, startHelper, remove, load, read, loadRights, isSupplied, callStatus, callValue}
 use Rattle.model.specs.Run.{Line}
 use Rattle.model.specs.History.{Object, historyOf}
-use Rattle.model.specs.Values.{readStatus, readValue, entryGeneration, entriesLeft, loadAnswer, mayIn, helperAnswer}
+use Rattle.model.specs.Values.{readStatus, readValue, entryGeneration, entriesLeft, loadAnswer, mayIn, helperAnswer, removeAnswer}
 use Rattle.model.specs.Claims.{In, Follows, newest, older}
 use Rattle.model.proofs.Sound.{Sound}
 use Rattle.model.proofs.MemoryClaims.{no-15}
 use Rattle.model.proofs.Outcomes.{Accepts, Transition, accepts}
 use Rattle.model.proofs.Openings.{Opened, entry-value, exit-value}
+use Rattle.model.proofs.Sizes.{Sized, remove-told}
 use Rattle.model.proofs.Stored.{Recorded, load-value}
 use Rattle.model.proofs.Readings.{read-status, read-value, read-none, object-live, words-are, right-is}
 use Rattle.model.proofs.Configured.{InForce, load-told, helper-told}
@@ -35,8 +36,9 @@ pub record LineClaims (l : Line) (before : List Line) : Type 0 where
   pub exits : (t : ℕ) → l .call ≡ exit t → l .reply .status ≡ 0 → l .reply .value ≡ entriesLeft (historyOf before) t
   pub reloads : (text : List ℕ) → l .call ≡ loadRights text → l .reply .status ≡ loadAnswer (historyOf before) text
   pub helpers : (t p q : ℕ) → l .call ≡ startHelper t p q → l .reply .status ≢ 1 → l .reply .status ≡ helperAnswer before t p q
+  pub removes : (t q : ℕ) → l .call ≡ remove t q → l .reply .status ≢ 1 → l .reply .status ≡ removeAnswer (historyOf before) t q
 
-module _ (s : State) (m : Memory) (ls : List Line) (o : Sound s m (historyOf ls)) (w : Recorded s m (historyOf ls)) (g : Opened s ls) (f : InForce s ls)
+module _ (s : State) (m : Memory) (ls : List Line) (o : Sound s m (historyOf ls)) (w : Recorded s m (historyOf ls)) (g : Opened s ls) (f : InForce s ls) (z : Sized s (historyOf ls))
     {l : Line} {n : State} {k : Memory} (d : Transition s m l n k) where
   not-15 : (t p q : ℕ) → l .call ≡ load t p q → l .reply .status ≢ 15
   not-15 t p q e z = ⊎-elim
@@ -102,6 +104,7 @@ module _ (s : State) (m : Memory) (ls : List Line) (o : Sound s m (historyOf ls)
     exits = λ t e z. let x = value-is (exit t) e z in x .1 ∙ exit-value s m (historyOf ls) o t (x .0);
     reloads = λ text e. load-status text e ∙ load-told s m (historyOf ls) o text;
     helpers = λ t p q e n. status-of (startHelper t p q) e n ∙ helper-told s m ls o f t p q;
+    removes = λ t q e n. status-of (remove t q) e n ∙ remove-told s m (historyOf ls) o z t q;
   }
 
 -- ---- every line

@@ -12,9 +12,9 @@ use borrow.Author.Tests.{eqb-true, eqb-false, eq-eqb, ne-eqb}
 use Rattle.layout.specs.Choice.{cases}
 use Rattle.layout.specs.Handle.{offsetOf}
 use Rattle.model.specs.State.{State, Memory, areaAt, current, storeOf}
-use Rattle.model.specs.Calls.{Call, start, end, make, enter, exit, startHelper, allocate, store, write, asks, configure}
+use Rattle.model.specs.Calls.{Call, start, end, make, enter, exit, startHelper, remove, allocate, store, write, asks, configure}
 use Rattle.model.specs.Run.{Line, World}
-use Rattle.model.specs.History.{Object, History, threadRow, below, occurrences, handles, isScopeOnNone, historyThread, historyEnter, historyExit, historyAllocate, historyWords, historyStep, historyLine, historyFrom, historyOf}
+use Rattle.model.specs.History.{Object, History, threadRow, below, occurrences, handles, isScopeOnNone, historyThread, historySize, historyEnter, historyExit, historyAllocate, historyWords, historyStep, historyLine, historyFrom, historyOf}
 use Rattle.model.specs.Claims.{Open, Walk, ends, goes, Meets, here, up, InOrder, keep, skip, onRow, scan, In, Among, Within, Allocates, Since, made, stays, Names, newest, Claims}
 use Rattle.model.proofs.Lists.{on-one, occ-le-total, occ-nil, occ-other}
 use Rattle.model.proofs.Memory.{put-same, put-other}
@@ -216,13 +216,14 @@ module _ (b : History) (a : ℕ) (o : Object) (i : In o (b .objects a)) where
       (λ d. inl (rw (put-other (b .objects) (current (threadRow b t)) (n ∷ b .objects (current (threadRow b t))) a (eqb-false a (current (threadRow b t)) d)) i))
 
   kept-step : (c : Call) (v : ℕ) → KeptOrGone (historyStep b c v)
-  unfolding historyThread historyEnter historyWords
+  unfolding historyThread historySize historyEnter historyWords
   kept-step (start t p) v = inl i
   kept-step (end t) v = inl i
   kept-step (make t q r) v = inl i
   kept-step (enter t q) v = inl i
   kept-step (exit t) v = kept-exit t
   kept-step (startHelper t p q) v = inl i
+  kept-step (remove t q) v = inl i
   kept-step (allocate t q r) v = kept-allocate t _
   kept-step (store t p q r) v = inl i
   kept-step (write t p q r) v = inl i

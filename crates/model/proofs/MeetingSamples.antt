@@ -20,7 +20,7 @@ wrong t =
 
 -- the scratch store is one word short
 pub short : World
-short = supplied busy (record { permanent = copies 9 9; scratch = copies 11 9; map = copies 1 0; written = copies 1 0 })
+short = supplied busy (record { permanent = copies 9 9; scratch = copies 51 9; map = copies 1 0; written = copies 1 0 })
 
 -- 1 comes first, by a thread above 15 and by one that is started
 pub lengths-first : each short (wrong 16) ++ each short (wrong 2) ≡ copies 22 1

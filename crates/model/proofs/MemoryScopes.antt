@@ -1,4 +1,4 @@
--- Starting and ending a thread, making a scope, entering and leaving an area and starting a helper keep a sound memory.
+-- Starting and ending a thread, making and removing a scope, entering and leaving an area and starting a helper keep a sound memory.
 -- Assumes nothing.
 use Prim.Native.Nat.{ℕ, suc, pred, _≤_, _<_}
 use mathlib.Core.Bool.{true, false}
@@ -9,18 +9,20 @@ use native.Mathlib.Omega.{arith}
 use borrow.Author.Tests.{le-leb, lt-leb, eq-eqb, ne-eqb}
 use Rattle.model.specs.declared.Area.{Area}
 use Rattle.model.specs.State.{State, Memory, areaAt, threadAt, entriesOf, stackAt, current}
+use Rattle.model.specs.Blocks.{roomFor}
 use Rattle.model.specs.Threads.{startState, endState}
 use Rattle.model.specs.Scopes.{madeArea, makeState, reentered, enterState, left, popped, exitState}
 use Rattle.model.specs.Helpers.{helperState}
-use Rattle.model.specs.History.{History, threadRow, total, handles, putAt, isScopeOnNone, historyThread, historyStart, historyHelper, historyEnter, historyExit}
+use Rattle.model.specs.Removal.{removedArea, removeState}
+use Rattle.model.specs.History.{History, threadRow, total, handles, putAt, isScopeOnNone, historyThread, historyStart, historyHelper, historySize, historyEnter, historyExit}
 use Rattle.model.specs.Invariant.{countIn, Good}
-use Rattle.model.proofs.Accepted.{MakeOk, EnterOk, ExitOk, HelperOk}
+use Rattle.model.proofs.Accepted.{MakeOk, RemoveOk, EnterOk, ExitOk, HelperOk}
 use Rattle.model.proofs.Sound.{Same, Sound}
 use Rattle.model.proofs.Parts.{display-same}
 use Rattle.model.proofs.Bounds.{by-area, current-area}
 use Rattle.model.proofs.Agrees.{row-top, left-count}
 use Rattle.model.proofs.KeepsHelper.{helper-counts, helper-closed}
-use Rattle.model.proofs.Alters.{Stays, Alters, Raises, start-stays, end-stays, make-alters, make-rows, freshArea, enter-stays, open-rows, open-alters, fresh-alters, by-left, exit-stays, exit-rows, left-alters}
+use Rattle.model.proofs.Alters.{Stays, Alters, Raises, start-stays, end-stays, make-alters, make-rows, remove-alters, remove-rows, freshArea, enter-stays, open-rows, open-alters, fresh-alters, by-left, exit-stays, exit-rows, left-alters}
 use Rattle.model.proofs.MemoryKept.{Moved, Still, moved-same, still-same, moved-all, still-all, count-all, sound-still, sound-opens, sound-shuts}
 
 module _ (s : State) (m : Memory) (b : History) (o : Sound s m b) where
@@ -38,16 +40,33 @@ module _ (s : State) (m : Memory) (b : History) (o : Sound s m b) where
   sound-end t g i = stays-sound (endState s t) (historyStart b t 0) g i (end-stays s t) refl refl
 
   -- an area of no words has none used, so it may lie elsewhere
-  pub sound-make : (t q r : ℕ) → MakeOk s t q r → Good (makeState s q r) → Same (makeState s q r) b → Sound (makeState s q r) m b
-  sound-make t q r k g i = sound-still s m b o (makeState s q r) b g i (to .lengths) (moved-all to moves) refl refl
+  pub sound-make : (t q r : ℕ) → MakeOk s t q r → Good (makeState s q r) → Same (makeState s q r) (historySize b q r) → Sound (makeState s q r) m (historySize b q r)
+  unfolding historySize
+  sound-make t q r k g i = sound-still s m b o (makeState s q r) (historySize b q r) g i (to .lengths) (moved-all to moves) refl refl
       (still-all to (make-rows s q r) refl refl refl) (count-all to (λ z. z))
     where
-      to : Alters s (makeState s q r) q (madeArea (areaAt s q) (s .taken) r)
+      to : Alters s (makeState s q r) q (madeArea (areaAt s q) (roomFor s r) r)
       to = make-alters s (o .good .areas) q (k .area) r
 
-      moves : Moved (areaAt s q) (madeArea (areaAt s q) (s .taken) r)
+      moves : Moved (areaAt s q) (madeArea (areaAt s q) (roomFor s r) r)
       moves = record {
         start = λ p. absurd (omega (arith, k .unmade, o .good .placed .used q (k .area)));
+        later = omega arith;
+        fresh = λ p z. absurd (omega arith);
+      }
+
+  -- nor has a scope that is not open
+  pub sound-remove : (t q : ℕ) → RemoveOk s t q → Good (removeState s q) → Same (removeState s q) (historySize b q 0) → Sound (removeState s q) m (historySize b q 0)
+  unfolding historySize
+  sound-remove t q k g i = sound-still s m b o (removeState s q) (historySize b q 0) g i (to .lengths) (moved-all to moves) refl refl
+      (still-all to (remove-rows s q) refl refl refl) (count-all to (λ z. z))
+    where
+      to : Alters s (removeState s q) q (removedArea (areaAt s q))
+      to = remove-alters s (o .good .areas) q (k .area)
+
+      moves : Moved (areaAt s q) (removedArea (areaAt s q))
+      moves = record {
+        start = λ p. absurd (omega (arith, o .good .scopes q (k .scope) (k .area) .no-words (k .closed)));
         later = omega arith;
         fresh = λ p z. absurd (omega arith);
       }

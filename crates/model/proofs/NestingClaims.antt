@@ -43,7 +43,7 @@ module _ (s : State) (b : History) (g : Good s) (e : Same s b) where
       (z .branch, z .chain)
 
   -- there are 64 areas
-  past : (a : ℕ) → 64 ≤ a → areaAt s a ≡ noArea
+  pub past : (a : ℕ) → 64 ≤ a → areaAt s a ≡ noArea
   past a h = List·getD-eq-default (s .areas) noArea {n = a} (omega (arith, g .areas))
 
   -- ---- the history's things

@@ -16,11 +16,11 @@ use Rattle.model.specs.SetUp.{firstState}
 use Rattle.model.specs.Scopes.{enterState, enterValue, popped, exitState, exitValue}
 use Rattle.model.specs.Helpers.{helperState}
 use Rattle.model.specs.Objects.{currentAt}
-use Rattle.model.specs.Calls.{Call, start, end, make, enter, exit, startHelper, allocate, store, write, asks, configure, callStatus, callValue, callState}
+use Rattle.model.specs.Calls.{Call, start, end, make, enter, exit, startHelper, remove, allocate, store, write, asks, configure, callStatus, callValue, callState}
 use Rattle.model.specs.Run.{Line}
 use Rattle.model.specs.History.{History, total, historyExit, historyOf}
 use Rattle.model.specs.Values.{openingStep, lastOpening, entryGeneration, entriesLeft}
-use Rattle.model.proofs.Accepted.{fitted-ok, MakeOk, make-ok, EnterOk, enter-ok, ExitOk, exit-ok, HelperOk, helper-ok, AllocateOk, allocate-ok}
+use Rattle.model.proofs.Accepted.{fitted-ok, MakeOk, make-ok, EnterOk, enter-ok, ExitOk, exit-ok, HelperOk, helper-ok, RemoveOk, remove-ok, AllocateOk, allocate-ok}
 use Rattle.model.proofs.Sound.{generationIn, Sound}
 use Rattle.model.proofs.Bounds.{by-area, current-area}
 use Rattle.model.proofs.KeepsHelper.{helper-counts}
@@ -28,7 +28,7 @@ use Rattle.model.proofs.KeepsConfiguration.{configure-stays}
 use Rattle.model.proofs.Keeps.{first-scope}
 use Rattle.model.proofs.Agrees.{row-top, left-count}
 use Rattle.model.proofs.NestingClaims.{history-nesting}
-use Rattle.model.proofs.Alters.{Stays, Alters, start-stays, end-stays, make-alters, allocate-alters, freshArea, enter-stays, open-alters, fresh-alters, by-top, exit-stays, left-alters}
+use Rattle.model.proofs.Alters.{Stays, Alters, start-stays, end-stays, make-alters, remove-alters, allocate-alters, freshArea, enter-stays, open-alters, fresh-alters, by-top, exit-stays, left-alters}
 use Rattle.model.proofs.Outcomes.{Transition}
 use Rattle.model.proofs.ValueMeanings.{opening-accepted, opening-refused}
 
@@ -110,6 +110,10 @@ module _ (s : State) (m : Memory) (b : History) (o : Sound s m b) where
   carried-call (enter t q) z a = carried-enter t q (enter-ok s t q (fitted-ok s m _ z .1)) a
   carried-call (exit t) z a = carried-exit t (exit-ok s t (fitted-ok s m _ z .1)) a
   carried-call (startHelper t p q) z a = carried-helper t p q (helper-ok s t p q (fitted-ok s m _ z .1)) a
+  carried-call (remove t q) z a =
+      let k : RemoveOk s t q = remove-ok s t q (fitted-ok s m _ z .1) in
+      carried-all (remove-alters s (o .good .areas) q (k .area))
+      record { start = λ p. absurd (omega (arith, o .good .scopes q (k .scope) (k .area) .no-words (k .closed))); generation = refl } a
   carried-call (allocate t q r) z a =
       let k : AllocateOk s t q r = allocate-ok s t q r (fitted-ok s m _ z .1) in
       carried-all (allocate-alters s (o .good .areas) (currentAt s t) (current-area s (o .good) t (k .called .thread)) q r)

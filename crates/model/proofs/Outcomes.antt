@@ -10,7 +10,7 @@ use borrow.Author.Tests.{eqb-true, eqb-false, eq-eqb, ne-eqb}
 use Rattle.layout.specs.Choice.{pick, cases, hit, skip}
 use Rattle.model.specs.State.{State, Memory}
 use Rattle.model.specs.Checks.{fits, fitted}
-use Rattle.model.specs.Calls.{Call, start, end, make, enter, exit, startHelper, allocate, store, write, Question, loads, reads, views, viewsStatus, asks, view, configure, Configuration, isSupplied, callStatus, callValue, callState, callMemory, outcomeOf}
+use Rattle.model.specs.Calls.{Call, start, end, make, enter, exit, startHelper, remove, allocate, store, write, Question, loads, reads, views, viewsStatus, asks, view, configure, Configuration, isSupplied, callStatus, callValue, callState, callMemory, outcomeOf}
 use Rattle.model.specs.Run.{Line}
 use Rattle.model.specs.History.{History, historyStep, historyLine}
 use Rattle.model.proofs.Sound.{Sound}
@@ -106,6 +106,7 @@ module _ (s : State) (n : Memory) (u : fits s n ≡ false) where
   unfit-status (enter t q) = inl (unfit-fitted _, refl)
   unfit-status (exit t) = inl (unfit-fitted _, refl)
   unfit-status (startHelper t p q) = inl (unfit-fitted _, refl)
+  unfit-status (remove t q) = inl (unfit-fitted _, refl)
   unfit-status (allocate t q r) = inl (unfit-fitted _, refl)
   unfit-status (store t p q r) = inl (unfit-fitted _, refl)
   unfit-status (write t p q r) = inl (unfit-fitted _, refl)
@@ -150,6 +151,7 @@ unsupplied-apart s m n (make t q r) e = absurd (true≢false e)
 unsupplied-apart s m n (enter t q) e = absurd (true≢false e)
 unsupplied-apart s m n (exit t) e = absurd (true≢false e)
 unsupplied-apart s m n (startHelper t p q) e = absurd (true≢false e)
+unsupplied-apart s m n (remove t q) e = absurd (true≢false e)
 unsupplied-apart s m n (allocate t q r) e = absurd (true≢false e)
 unsupplied-apart s m n (store t p q r) e = absurd (true≢false e)
 unsupplied-apart s m n (write t p q r) e = absurd (true≢false e)

@@ -1,6 +1,6 @@
 -- What is read of a state after a part of it is replaced, and what stays good of it.
 -- Assumes nothing.
-use Prim.Native.Nat.{ℕ, _≤_, _<_}
+use Prim.Native.Nat.{ℕ, _+_, _*_, _/_, _≤_, _<_}
 use mathlib.Core.List.{List, []}
 use mathlib.Core.Path.{_≡_, refl, sym, ap, ap₂, _∙_}
 use mathlib.Core.Logic.{_≢_}
@@ -14,9 +14,10 @@ use Rattle.layout.specs.Stack.{down}
 use Rattle.rights.specs.Rights.{Loadable}
 use Rattle.model.specs.declared.Area.{Area}
 use Rattle.model.specs.declared.Lengths.{Lengths}
-use Rattle.model.specs.State.{Thread, State, noArea, noThread, areaAt, rowAt, threadAt, withArea, withRow, withThread, withTaken, withRights, entriesOf, stackAt, innermost, displayAt}
+use Rattle.model.specs.State.{Thread, State, noArea, noThread, areaAt, rowAt, threadAt, withArea, withRow, withThread, withUsedBits, withRights, entriesOf, stackAt, innermost, displayAt}
+use Rattle.model.specs.Blocks.{HasBlock}
 use Rattle.model.specs.History.{total}
-use Rattle.model.specs.Invariant.{branchOf, firstOf, Nesting, ThreadGood, StandingGood, ScopeGood, Placed, parentIn, stacksIn, NestingIn, GoodWith, Good}
+use Rattle.model.specs.Invariant.{branchOf, firstOf, Nesting, ThreadGood, StandingGood, ScopeGood, Owner, Placed, parentIn, stacksIn, NestingIn, GoodWith, Good}
 use Rattle.model.proofs.Lists.{innermost-is, each-set}
 use Rattle.model.proofs.Nesting.{nested-frame}
 
@@ -94,9 +95,16 @@ pub record SamePlace (x y : Area) : Type 0 where
   pub size : y .size ≡ x .size
   pub used : y .used ≤ y .size
 
+-- it has the blocks that it had
+block-same : {x y : Area} → SamePlace x y → (k : ℕ) → HasBlock y k → HasBlock x k
+block-same p k h = rw (p .start, p .size) at h
+
+block-still : {x y : Area} → SamePlace x y → (k : ℕ) → HasBlock x k → HasBlock y k
+block-still p k h = rw (p .start, p .size) h
+
 -- areas that lie where they lay
-placed-same : (s r : State) → Placed s → r .lengths ≡ s .lengths → r .taken ≡ s .taken → ((a : ℕ) → a < 64 → SamePlace (areaAt s a) (areaAt r a)) → Placed r
-placed-same s r p l n f =
+placed-same : (s r : State) → Placed s → r .lengths ≡ s .lengths → r .usedBits ≡ s .usedBits → ((a : ℕ) → a < 64 → SamePlace (areaAt s a) (areaAt r a)) → Placed r
+placed-same s r p l u f =
     let e0 : r .lengths .permanent ≡ s .lengths .permanent = ap (λ (x : Lengths). x .permanent) l in
     let e1 : r .lengths .scratch ≡ s .lengths .scratch = ap (λ (x : Lengths). x .scratch) l in
     let e2 : r .lengths .map ≡ s .lengths .map = ap (λ (x : Lengths). x .map) l in
@@ -109,11 +117,16 @@ placed-same s r p l n f =
       heap = heap .start ∙ p .heap;
       immortal = immortal .start ∙ p .immortal ∙ sym (heap .size);
       whole = omega (arith, p .whole);
-      taken = omega (arith, p .taken);
-      below = λ a h k. omega (arith, p .below a h k, f a k .start, f a k .size);
+      bits = ap length u ∙ p .bits;
+      aligned = λ a h k. rw (f a k .start) (p .aligned a h k);
+      below = λ a h k. rw (e1, f a k .start, f a k .size) (p .below a h k);
       used = λ a k. f a k .used;
       apart = λ a c ha ka hc kc ne j k hj hk. rw (f a ka .start, f c kc .start)
           (p .apart a c ha ka hc kc ne j k (omega (arith, f a ka .size)) (omega (arith, f c kc .size)));
+      held = λ a h k j b. rw u (p .held a h k j (block-same (f a k) j b));
+      owned = λ k b.
+          let o : Owner s k = p .owned k (rw u at b) in
+          record { scope = o .scope; low = o .low; high = o .high; has = block-still (f (o .scope) (o .high)) k (o .has) };
     }
 
 module _ {n : State} (s : State) (g : GoodWith n s) where
@@ -169,10 +182,10 @@ module _ {n : State} (s : State) (g : GoodWith n s) where
         (λ e. rw (eqb-true a q e, area-same s q x (omega (arith, g .areas))) (o (eqb-true a q e)))
         (λ e. rw (area-other s q x a (eqb-false a q e)) (f (eqb-false a q e)))
 
-    -- an area is replaced, and how many scratch words are taken
-    pub good-made : (q < 2 → StandingGood x) → (2 ≤ q → ScopeGood x) → (m : ℕ) → Placed (withTaken (withArea s q x) m) → GoodWith n (withTaken (withArea s q x) m)
-    unfolding withTaken withArea
-    good-made low high m o = record {
+    -- an area is replaced, and the used bits
+    pub good-made : (q < 2 → StandingGood x) → (2 ≤ q → ScopeGood x) → (u : List ℕ) → Placed (withUsedBits (withArea s q x) u) → GoodWith n (withUsedBits (withArea s q x) u)
+    unfolding withUsedBits withArea
+    good-made low high u o = record {
       areas = length-set (s .areas) q x ∙ g .areas;
       rows = g .rows;
       threads = g .threads;
@@ -185,8 +198,8 @@ module _ {n : State} (s : State) (g : GoodWith n s) where
 
     -- an area is replaced by one that lies where it lay
     pub good-area : (q < 2 → StandingGood x) → (2 ≤ q → ScopeGood x) → SamePlace (areaAt s q) x → GoodWith n (withArea s q x)
-    unfolding withTaken withArea
+    unfolding withUsedBits withArea
     good-area low high o =
-        good-made low high (s .taken)
+        good-made low high (s .usedBits)
         (placed-same s (withArea s q x) (g .placed) refl refl
         (λ a l. area-by (SamePlace (areaAt s a)) a (λ e. rw e o) (λ ne. same a l)))

@@ -25,7 +25,7 @@ module _ (s : State) (g : Placed s) where
   -- every area ends within its store
   pub inside : (a : ℕ) → a < 64 → areaAt s a .start + areaAt s a .size ≤ storeLength s a
   inside a h = cases (leb 2 a)
-      (λ e. rw e (omega (arith, g .below a (leb-true 2 a e) h, g .taken)))
+      (λ e. rw e (omega (arith, g .below a (leb-true 2 a e) h)))
       (λ e. rw e (low-inside a (leb-false 2 a e)))
 
   -- so an offset has 14 bits

@@ -1,23 +1,26 @@
 -- Runs of calls and their answers, for the samples. Whoever unfolds `answer` unfolds every definition that a call computes with.
 -- Assumes nothing.
 use Prim.Native.Nat.{ℕ}
-use mathlib.Core.List.{List, [], _∷_, map}
+use mathlib.Core.List.{List, [], _∷_, _++_, map}
 use mathlib.Core.Path.{_≡_, refl}
 use lib.ListN.{replicate}
 use Rattle.layout.specs.Choice.{refuse}
 use Rattle.layout.specs.Handle.{handleOf, offsetOf, areaOf, generationOf}
 use Rattle.layout.specs.Header.{headerOf, slotsOf, dataOf}
 use Rattle.layout.specs.Stack.{down}
-use Rattle.bitmap.specs.Bitmap.{bitAt, withBit, withoutBit, cleared}
+use Rattle.bitmap.specs.Bitmap.{bitAt, withBit, onBits}
+use Rattle.runs.specs.LowestRun.{lowestFrom, lowestRun}
 use Rattle.layout.specs.Below.{allBelow, someBelow}
 use Rattle.rights.specs.Rights.{classOf, allows, textOf, rightsRows, builtIn, isBinary, onlyBinary, allocatorUses, allocatorsUse, isTable}
 use Rattle.layout.specs.Display.{rowHolds}
-use Rattle.model.specs.State.{State, Memory, noArea, withWords, withUsed, withGeneration, withCount, withParent, withKind, withStack, withArea, withRow, withThread, withTaken, withRights, entriesOf, innermost, isMade, displayHolds, withStore}
+use Rattle.model.specs.State.{State, Memory, noArea, withWords, withUsed, withGeneration, withCount, withParent, withKind, withStack, withArea, withRow, withThread, withUsedBits, withRights, entriesOf, innermost, isMade, displayHolds, withStore}
+use Rattle.model.specs.Blocks.{roomFor, withUsedBlocks, withFreeBlocks}
 use Rattle.model.specs.SetUp.{standing, newThread, firstState}
 use Rattle.model.specs.Checks.{fits, fitted, called, hasRight, live, isObject, isReference, useRest}
 use Rattle.model.specs.Threads.{startable, startState, endRest, endState}
 use Rattle.model.specs.Scopes.{makeRest, makeState, otherParent, generationsOut, enterRest, enteredArea, pushed, enterState, enterValue, exitRest, leftArea, popped, exitState, exitValue}
 use Rattle.model.specs.Helpers.{mayEnterAll, helperRest, raisedArea, raised, helperState}
+use Rattle.model.specs.Removal.{removeRest, removeState}
 use Rattle.model.specs.Objects.{allocateRest, allocateState, filled, objectWords, objectBits, unwrittenBits, allocateMemory, allocateValue}
 use Rattle.model.specs.References.{mayRefer, storeAfter, slotRest, referenceRest, storeRest, loadRest}
 use Rattle.model.specs.Data.{dataRest, writeMemory, readRest, viewWords}
@@ -27,11 +30,11 @@ use Rattle.model.specs.Run.{World, kept, step, begin}
 
 -- what a call answers
 unfoldable pub answer : World → Call → Reply
-unfolding refuse handleOf offsetOf areaOf generationOf headerOf slotsOf dataOf down bitAt withBit withoutBit cleared classOf allows textOf rightsRows builtIn
+unfolding refuse handleOf offsetOf areaOf generationOf headerOf slotsOf dataOf down bitAt withBit onBits lowestFrom lowestRun classOf allows textOf rightsRows builtIn
     allBelow someBelow isBinary onlyBinary allocatorUses allocatorsUse isTable rowHolds
-    withArea withRow withThread withTaken withRights entriesOf innermost isMade displayHolds withStore firstState fits fitted called hasRight live isObject isReference useRest
+    withArea withRow withThread withUsedBits withUsedBlocks withFreeBlocks roomFor withRights entriesOf innermost isMade displayHolds withStore firstState fits fitted called hasRight live isObject isReference useRest
     startable startState endRest endState makeRest makeState otherParent generationsOut enterRest enteredArea pushed enterState enterValue
-    exitRest leftArea popped exitState exitValue mayEnterAll helperRest raisedArea raised helperState
+    exitRest leftArea popped exitState exitValue mayEnterAll helperRest raisedArea raised helperState removeRest removeState
     allocateRest allocateState filled objectWords objectBits unwrittenBits allocateMemory allocateValue mayRefer storeAfter slotRest referenceRest storeRest loadRest
     dataRest writeMemory readRest viewWords anyStarted loadRightsStatus loadRightsState outcomeOf step begin
 answer w c = outcomeOf (w .state) (w .memory) c .reply
@@ -83,9 +86,9 @@ withState w s = record { state = s; memory = w .memory; trace = w .trace }
 abbrev pub copies : ℕ → ℕ → List ℕ
 copies n v = replicate n v
 
--- set-up with 3 words of heap, 6 of immortal and 12 of scratch; each word is 9 and each bit of both maps is 1: "the lent words may hold anything"
+-- set-up with 3 words of heap, 6 of immortal and 52 of scratch, which are three blocks and a rest of 4; each word is 9 and each bit of both maps is 1: "the lent words may hold anything"
 unfoldable pub first : World
-first = begin 3 6 (record { permanent = copies 9 9; scratch = copies 12 9; map = copies 1 18446744073709551615; written = copies 1 18446744073709551615 })
+first = begin 3 6 (record { permanent = copies 9 9; scratch = copies 52 9; map = copies 1 18446744073709551615; written = copies 1 18446744073709551615 })
 
 -- Thread 1 is ordinary, 2 real-time, 3 no-heap, as their kinds. Thread 2 is in immortal memory, then in scope 2 of 6 words, then in scope 3
 -- of 4 words. An object of 1 slot and 1 data word fills the heap; one of 2 and 2 is in immortal memory, one of 1 and 2 in scope 2, one of 1
@@ -96,22 +99,22 @@ busy = record {
     areas =
         withUsed (standing 0 3) 3 ∷ withUsed (standing 3 6) 5
         ∷ withParent (withCount (withGeneration (withUsed (withWords noArea 0 6) 4) 1) 1) 0 1
-        ∷ withParent (withCount (withGeneration (withUsed (withWords noArea 6 4) 2) 1) 1) 2 2
+        ∷ withParent (withCount (withGeneration (withUsed (withWords noArea 16 4) 2) 1) 1) 2 2
         ∷ replicate 60 noArea;
     rows = copies 32 0 ∷ copies 32 0 ∷ (2 ∷ copies 31 0) ∷ (2 ∷ 3 ∷ copies 30 0) ∷ replicate 60 (copies 32 0);
     threads =
         newThread ∷ withKind newThread 1
         ∷ withStack (withKind newThread 2) 3 (1 ∷ 2 ∷ 3 ∷ copies 29 0) (0 ∷ 2 ∷ 3 ∷ copies 29 0)
         ∷ withKind newThread 3 ∷ replicate 12 newThread;
-    lengths = record { permanent = 9; scratch = 12; map = 1 };
-    taken = 10;
+    lengths = record { permanent = 9; scratch = 52; map = 1 };
+    usedBits = 0b11 ∷ copies 15 0;
     rights = builtIn;
   };
   memory = record {
     permanent = 16385 ∷ 0 ∷ 0 ∷ 32770 ∷ 0 ∷ 0 ∷ 0 ∷ 0 ∷ 9 ∷ [];
-    scratch = 32769 ∷ 0 ∷ 0 ∷ 0 ∷ 9 ∷ 9 ∷ 1 ∷ 0 ∷ 9 ∷ 9 ∷ 9 ∷ 9 ∷ [];
-    map = 18446744073709478665 ∷ [];
-    written = 18446744073709445376 ∷ [];
+    scratch = 32769 ∷ 0 ∷ 0 ∷ 0 ∷ copies 12 9 ++ (1 ∷ 0 ∷ copies 34 9);
+    map = 18446744073642435337 ∷ [];
+    written = 18446744073608880384 ∷ [];
   };
   trace = [];
 }

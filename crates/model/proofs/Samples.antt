@@ -46,7 +46,7 @@ rows =
     ∷ (3 ∷ statuses first full)
     ∷ (4 ∷ last (statuses first (full ++ allocate 0 0 0 ∷ [])) ∷ [])
     ∷ (5 ∷ values first (full ++ exit 0 ∷ enter 0 2 ∷ allocate 0 3 4 ∷ []))
-    ∷ (6 ∷ statuses wide (start 0 2 ∷ make 0 2 4090 ∷ make 0 3 6 ∷ make 0 4 1 ∷ []))
+    ∷ (6 ∷ statuses wide (start 0 2 ∷ make 0 2 4080 ∷ make 0 3 16 ∷ make 0 4 1 ∷ []))
     ∷ (7 ∷ statuses first (nested ++ enter 1 3 ∷ []))
     ∷ (8 ∷ statuses first (nested ++ enter 1 2 ∷ enter 1 0 ∷ enter 1 3 ∷ []))
     ∷ (9 ∷ last (statuses first (objects ++ store 0 1097728 0 1081344 ∷ [])) ∷ [])

@@ -20,9 +20,9 @@ use Rattle.model.specs.Checks.{headerAt, live}
 use Rattle.model.specs.Objects.{currentAt, allocateState, allocateMemory, allocateValue}
 use Rattle.model.specs.References.{storeAfter, loadRest}
 use Rattle.model.specs.Data.{dataIndex, writtenIndex, writeMemory}
-use Rattle.model.specs.Calls.{Call, start, end, make, enter, exit, startHelper, allocate, store, write, asks, configure, load, callStatus, callValue, callState, callMemory}
+use Rattle.model.specs.Calls.{Call, start, end, make, enter, exit, startHelper, remove, allocate, store, write, asks, configure, load, callStatus, callValue, callState, callMemory}
 use Rattle.model.specs.Run.{Line}
-use Rattle.model.specs.History.{Object, History, occurrences, handles, putAt, historyThread, historyEnter, historyExit, historyAllocate, historyWords, historyStore, historyWrite, historyStep, historyLine}
+use Rattle.model.specs.History.{Object, History, occurrences, handles, putAt, historyThread, historySize, historyEnter, historyExit, historyAllocate, historyWords, historyStore, historyWrite, historyStep, historyLine}
 use Rattle.model.specs.Claims.{In}
 use Rattle.model.proofs.Accepted.{fitted-ok, admitted, AllocateOk, allocate-ok, SlotOk, slot-ok, StoreOk, store-ok, DataOk, data-ok}
 use Rattle.model.proofs.Tiles.{place, tiled-apart}
@@ -293,13 +293,14 @@ module _ (s : State) (m : Memory) (b : History) (o : Sound s m b) where
 
     recorded-call : (c : Call) → callStatus s m c ≡ 0 → Sound (callState s m c) (callMemory s m c) (historyStep b c (callValue s m c))
         → Recorded (callState s m c) (callMemory s m c) (historyStep b c (callValue s m c))
-    unfolding historyThread historyEnter
+    unfolding historyThread historySize historyEnter
     recorded-call (start t p) e z = recorded-still _ _ z (λ a. carried-call s m b o (start t p) e a .start) (λ a x i. i) refl refl
     recorded-call (end t) e z = recorded-still _ _ z (λ a. carried-call s m b o (end t) e a .start) (λ a x i. i) refl refl
     recorded-call (make t q r) e z = recorded-still _ _ z (λ a. carried-call s m b o (make t q r) e a .start) (λ a x i. i) refl refl
     recorded-call (enter t q) e z = recorded-still _ _ z (λ a. carried-call s m b o (enter t q) e a .start) (λ a x i. i) refl refl
     recorded-call (exit t) e z = recorded-still _ _ z (λ a. carried-call s m b o (exit t) e a .start) (exit-kept b t) (unfold historyExit in refl) (unfold historyExit in refl)
     recorded-call (startHelper t p q) e z = recorded-still _ _ z (λ a. carried-call s m b o (startHelper t p q) e a .start) (λ a x i. i) refl refl
+    recorded-call (remove t q) e z = recorded-still _ _ z (λ a. carried-call s m b o (remove t q) e a .start) (λ a x i. i) refl refl
     recorded-call (allocate t q r) e z = recorded-allocate t q r (allocate-ok s t q r (fitted-ok s m _ e .1)) z
     recorded-call (store t p q r) e z =
         let k : StoreOk s m t p q r = store-ok s m t p q r (admitted s m t _ e .1) in

@@ -25,6 +25,7 @@ use Rattle.model.proofs.MemoryClaims.{one-object, slot-holds, within, g
 use Rattle.model.proofs.Outcomes.{Transition, sound-line, lineFor, step-transition}
 use Rattle.model.proofs.Traces.{none-in, born, gone-run, among-some, area-below, open-area}
 use Rattle.model.proofs.Openings.{Opened, opened-first, opened-line}
+use Rattle.model.proofs.Sizes.{Sized, sized-first, sized-line, made-told, rooms-told, apart-told, used-told}
 use Rattle.model.proofs.Stored.{Recorded, recorded-line}
 use Rattle.model.proofs.Configured.{InForce, in-force-first, in-force-line}
 use Rattle.model.proofs.LineClaims.{AllAnswer, line-answers, each-answers}
@@ -69,6 +70,7 @@ record Told (w : World) : Type 0 where
   recorded : Recorded (w .state) (w .memory) (historyOf (w .trace))
   opened : Opened (w .state) (w .trace)
   table : InForce (w .state) (w .trace)
+  sized : Sized (w .state) (historyOf (w .trace))
   answers : AllAnswer (w .trace)
 
 module _ (w : World) (e : Element) (o : Told w) where
@@ -95,7 +97,8 @@ module _ (w : World) (e : Element) (o : Told w) where
     recorded = step-recorded;
     opened = rw trace-is (opened-line (w .state) (w .memory) (w .trace) (o .holds) (o .opened) leads);
     table = rw trace-is (in-force-line (w .state) (w .memory) (w .trace) (o .table) leads);
-    answers = rw trace-is (line-answers (w .state) (w .memory) (w .trace) (o .holds) (o .recorded) (o .opened) (o .table) leads, o .answers);
+    sized = rw trace-is (sized-line (w .state) (w .memory) (w .trace) (o .holds) (o .sized) leads);
+    answers = rw trace-is (line-answers (w .state) (w .memory) (w .trace) (o .holds) (o .recorded) (o .opened) (o .table) (o .sized) leads, o .answers);
   }
 
 run-told : (w : World) (es : List Element) → Told w → Told (run w es)
@@ -111,6 +114,7 @@ begin-told h i m e = record {
   recorded = record { slots = λ a x k. absurd (none-in k); cells = λ a x k. absurd (none-in k) };
   opened = opened-first h i (lengthsOf m);
   table = in-force-first h i (lengthsOf m);
+  sized = sized-first h i (lengthsOf m);
   answers = tt;
 }
 
@@ -176,6 +180,12 @@ module _ (w : World) (o : Told w) where
     loadable = sound .good .rights;
     reloads = λ l before i. each-answers i (o .answers) .reloads;
     helpers = λ l before i. each-answers i (o .answers) .helpers;
+    made = made-told (w .state) b (sound .good) (sound .same) (o .sized);
+    sizes = o .sized;
+    rooms = rooms-told (w .state) b (sound .good) (sound .same) (o .sized);
+    apart = apart-told (w .state) b (sound .good) (sound .same) (o .sized);
+    used = used-told (w .state) b (sound .good) (sound .same) (o .sized);
+    removes = λ l before i. each-answers i (o .answers) .removes;
   }
 
 -- The one theorem: from an accepted set-up, with any contents of the lent words, after every list of calls. The list has loads of any text at any place,

@@ -11,9 +11,9 @@ use native.Mathlib.Omega.{arith}
 use borrow.Author.Tests.{eqb-true, eqb-false, ltb-true, ltb-false}
 use Rattle.layout.specs.Choice.{cases}
 use Rattle.model.specs.State.{State, Memory, current, isOpen}
-use Rattle.model.specs.Calls.{Call, start, end, make, enter, exit, startHelper, allocate, store, write, asks, configure}
+use Rattle.model.specs.Calls.{Call, start, end, make, enter, exit, startHelper, remove, allocate, store, write, asks, configure}
 use Rattle.model.specs.Run.{Element, Line, World, step, run}
-use Rattle.model.specs.History.{Object, History, threadRow, putAt, below, occurrences, handles, isScopeOnNone, historyThread, historyEnter, historyExit, historyAllocate, historyWords, historyStep, historyLine, historyFrom, historyOf}
+use Rattle.model.specs.History.{Object, History, threadRow, putAt, below, occurrences, handles, isScopeOnNone, historyThread, historySize, historyEnter, historyExit, historyAllocate, historyWords, historyStep, historyLine, historyFrom, historyOf}
 use Rattle.model.specs.Claims.{Open, In, Among, Allocates}
 use Rattle.model.specs.Invariant.{countIn}
 use Rattle.model.proofs.Lists.{occ-same, occ-other}
@@ -74,13 +74,14 @@ module _ (b : History) (l : Line) (ok : l .reply .status ≡ 0) (a : ℕ) (x : O
 
   -- an object of the history has been there, or the line made it
   born-step : (c : Call) → l .call ≡ c → In x (historyStep b c (l .reply .value) .objects a) → Born
-  unfolding historyThread historyEnter historyWords
+  unfolding historyThread historySize historyEnter historyWords
   born-step (start t p) e i = inl i
   born-step (end t) e i = inl i
   born-step (make t q r) e i = inl i
   born-step (enter t q) e i = inl i
   born-step (exit t) e i = inl (exit-kept b t a x i)
   born-step (startHelper t p q) e i = inl i
+  born-step (remove t q) e i = inl i
   born-step (allocate t q r) e i = born-allocate t q r e i
   born-step (store t p q r) e i = inl i
   born-step (write t p q r) e i = inl i
@@ -107,13 +108,14 @@ gone-exit b t x i =
     (λ e. rw e i)
 
 gone-step : (b : History) (c : Call) (v x : ℕ) → Among x (b .gone) → Among x (historyStep b c v .gone)
-unfolding historyThread historyEnter historyAllocate historyWords
+unfolding historyThread historySize historyEnter historyAllocate historyWords
 gone-step b (start t p) v x i = i
 gone-step b (end t) v x i = i
 gone-step b (make t q r) v x i = i
 gone-step b (enter t q) v x i = i
 gone-step b (exit t) v x i = gone-exit b t x i
 gone-step b (startHelper t p q) v x i = i
+gone-step b (remove t q) v x i = i
 gone-step b (allocate t q r) v x i = i
 gone-step b (store t p q r) v x i = i
 gone-step b (write t p q r) v x i = i

@@ -12,9 +12,9 @@ use native.Mathlib.Omega.{arith}
 use borrow.Author.Tests.{eqb-true, eqb-false, eq-eqb, ne-eqb, le-leb, leb-false}
 use Rattle.layout.specs.Choice.{cases, peel}
 use Rattle.layout.specs.Handle.{null}
-use Rattle.model.specs.Calls.{Call, start, end, make, enter, exit, startHelper, allocate, store, write, asks, configure}
+use Rattle.model.specs.Calls.{Call, start, end, make, enter, exit, startHelper, remove, allocate, store, write, asks, configure}
 use Rattle.model.specs.Run.{Line}
-use Rattle.model.specs.History.{History, blank, threadRow, occurrences, total, historyThread, historyEnter, historyExit, historyAllocate, historyWords, historyStep, historyLine, historyFrom, historyOf}
+use Rattle.model.specs.History.{History, blank, threadRow, occurrences, total, historyThread, historySize, historyEnter, historyExit, historyAllocate, historyWords, historyStep, historyLine, historyFrom, historyOf}
 use Rattle.model.specs.Values.{openingStep, openingLine, lastOpening, helperAnswer}
 use Rattle.model.specs.Claims.{Open, Follows, newest, older}
 use Rattle.model.proofs.Lists.{total-set, occ-nil}
@@ -27,13 +27,14 @@ follows-all (k ∷ ks) ls l = older (follows-all ks ls l)
 -- ---- the rows of the history are those of 16 threads
 
 rows-step : (b : History) (c : Call) (v : ℕ) → length (historyStep b c v .rows) ≡ length (b .rows)
-unfolding historyThread historyEnter historyExit historyAllocate historyWords
+unfolding historyThread historySize historyEnter historyExit historyAllocate historyWords
 rows-step b (start t p) v = length-set (b .rows) t _
 rows-step b (end t) v = length-set (b .rows) t _
 rows-step b (make t q r) v = refl
 rows-step b (enter t q) v = length-set (b .rows) t _
 rows-step b (exit t) v = length-set (b .rows) t _
 rows-step b (startHelper t p q) v = length-set (b .rows) q _
+rows-step b (remove t q) v = refl
 rows-step b (allocate t q r) v = refl
 rows-step b (store t p q r) v = refl
 rows-step b (write t p q r) v = refl

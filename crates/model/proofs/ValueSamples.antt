@@ -1,7 +1,7 @@
 -- Samples of values: what each call answers beside its status, what it shows and which words it leaves; and the parts of handles and headers.
 -- Assumes nothing.
 use Prim.Native.Nat.{ℕ}
-use mathlib.Core.List.{List, [], _∷_, map}
+use mathlib.Core.List.{List, [], _∷_, _++_, map}
 use mathlib.Core.Path.{_≡_, refl}
 use lib.ListN.{length}
 use Rattle.layout.specs.Handle.{handleOf, offsetOf, areaOf, generationOf}
@@ -74,17 +74,17 @@ pub permanent-words : busy .memory .permanent ≡ 16385 ∷ 0 ∷ 0 ∷ 32770 �
 unfolding busy
 permanent-words = refl
 
-pub scratch-words : busy .memory .scratch ≡ 32769 ∷ 0 ∷ 0 ∷ 0 ∷ 9 ∷ 9 ∷ 1 ∷ 0 ∷ 9 ∷ 9 ∷ 9 ∷ 9 ∷ []
+pub scratch-words : busy .memory .scratch ≡ 32769 ∷ 0 ∷ 0 ∷ 0 ∷ copies 12 9 ++ (1 ∷ 0 ∷ copies 34 9)
 unfolding busy
 scratch-words = refl
 
--- "sets the map bit of the header and clears those of its other words": bits 1, 2, 4 to 7, 10 to 12 and 16 are clear
-pub map-words : busy .memory .map ≡ 18446744073709478665 ∷ []
+-- "sets the map bit of the header and clears those of its other words": bits 1, 2, 4 to 7, 10 to 12 and 26 are clear
+pub map-words : busy .memory .map ≡ 18446744073642435337 ∷ []
 unfolding busy
 map-words = refl
 
 -- a slot and a data word are written, and nothing else
-pub stored-words : after busy (store 2 in3 0 in2 ∷ write 2 in2 1 7 ∷ []) .memory .scratch ≡ 32769 ∷ 0 ∷ 0 ∷ 7 ∷ 9 ∷ 9 ∷ 1 ∷ in2 ∷ 9 ∷ 9 ∷ 9 ∷ 9 ∷ []
+pub stored-words : after busy (store 2 in3 0 in2 ∷ write 2 in2 1 7 ∷ []) .memory .scratch ≡ 32769 ∷ 0 ∷ 0 ∷ 7 ∷ copies 12 9 ++ (1 ∷ in2 ∷ copies 34 9)
 unfolding busy after
 stored-words = refl
 

@@ -39,13 +39,13 @@ emptied = refl
 
 -- ---- the bits
 
--- all bits were 1: those of the objects' words are 0, header, slots and data: 0 to 7, 9 to 12, 15 and 16
-pub cleared-bits : busy .memory .written ≡ 18446744073709445376 ∷ []
+-- all bits were 1: those of the objects' words are 0, header, slots and data: 0 to 7, 9 to 12, 25 and 26
+pub cleared-bits : busy .memory .written ≡ 18446744073608880384 ∷ []
 unfolding busy
 cleared-bits = refl
 
 -- "op 09 sets the word's bit", past the slots: bit 12, and nothing else of either map
-pub set-bit : after busy (write 2 in2 1 7 ∷ []) .memory .written ≡ 18446744073709449472 ∷ []
+pub set-bit : after busy (write 2 in2 1 7 ∷ []) .memory .written ≡ 18446744073608884480 ∷ []
 unfolding after busy
 set-bit = refl
 

@@ -10,6 +10,7 @@ use Rattle.model.specs.Checks.{fitted, admit, Change}
 use Rattle.model.specs.Threads.{startChange, endChange}
 use Rattle.model.specs.Scopes.{makeChange, enterChange, exitChange}
 use Rattle.model.specs.Helpers.{helperChange}
+use Rattle.model.specs.Removal.{removeChange}
 use Rattle.model.specs.Objects.{currentAt, allocateRest, allocateState, allocateMemory, allocateValue}
 use Rattle.model.specs.References.{storeAfter, wordAfter, storeRest, loadRest}
 use Rattle.model.specs.Data.{dataIndex, writeRest, writeMemory, readRest, viewRefusal, viewWords}
@@ -26,7 +27,7 @@ pub data Question : Type 0 where
 pub data Configuration : Type 0 where
   rightsTable : (text : List ℕ) → Configuration
 
--- Ops 01 to 0b, the shown part and its status call, and the calls without an op. The thread comes first, then the fields that the op uses.
+-- Ops 01 to 0c, the shown part and its status call, and the calls without an op. The thread comes first, then the fields that the op uses.
 pub data Call : Type 0 where
   start : (t p : ℕ) → Call
   end : (t : ℕ) → Call
@@ -34,6 +35,7 @@ pub data Call : Type 0 where
   enter : (t q : ℕ) → Call
   exit : (t : ℕ) → Call
   startHelper : (t p q : ℕ) → Call
+  remove : (t q : ℕ) → Call
   allocate : (t q r : ℕ) → Call
   store : (t p q r : ℕ) → Call
   write : (t p q r : ℕ) → Call
@@ -63,6 +65,7 @@ isSupplied (make t q r) = true
 isSupplied (enter t q) = true
 isSupplied (exit t) = true
 isSupplied (startHelper t p q) = true
+isSupplied (remove t q) = true
 isSupplied (allocate t q r) = true
 isSupplied (store t p q r) = true
 isSupplied (write t p q r) = true
@@ -120,6 +123,7 @@ effectOf s m (make t q r) = changing s m (makeChange s t q r)
 effectOf s m (enter t q) = changing s m (enterChange s t q)
 effectOf s m (exit t) = changing s m (exitChange s t)
 effectOf s m (startHelper t p q) = changing s m (helperChange s t p q)
+effectOf s m (remove t q) = changing s m (removeChange s t q)
 effectOf s m (allocate t q r) = record {
   status = fitted s m (allocateRest s t q r);
   value = allocateValue s (currentAt s t);

@@ -1,7 +1,7 @@
--- What is claimed after every list of calls: the third demand, what loads, reads, entries, exits and starts of helpers answer, and the rights table
--- in force. Each claim is a field of one record.
+-- What is claimed after every list of calls: the third demand, what loads, reads, entries, exits, starts of helpers and removals answer, the rights table
+-- in force, and where the scopes lie. Each claim is a field of one record.
 -- Assumes nothing.
-use Prim.Native.Nat.{ℕ, suc, _+_, _≤_, _<_}
+use Prim.Native.Nat.{ℕ, suc, _+_, _*_, _≤_, _<_}
 use mathlib.Core.Bool.{Bool, true, false}
 use mathlib.Core.List.{List, [], _∷_}
 use mathlib.Core.Path.{_≡_}
@@ -10,14 +10,16 @@ use lib.Dec.{eqb}
 use lib.ListN.{length}
 use Rattle.layout.specs.Choice.{pick}
 use Rattle.layout.specs.Handle.{null, offsetOf, areaOf}
+use Rattle.bitmap.specs.Bitmap.{bitAt}
 use Rattle.rights.specs.Rights.{Loadable}
 use Rattle.rights.specs.declared.Right.the-variants.{Use}
-use Rattle.model.specs.State.{State, Memory, areaAt, threadAt, stackAt, current, isOpen, displayAt, displayHolds, storeOf, wordAt}
+use Rattle.model.specs.State.{State, Memory, areaAt, threadAt, stackAt, current, isMade, isOpen, displayAt, displayHolds, storeOf, wordAt}
+use Rattle.model.specs.Blocks.{blockWords, blockCount, blocksFor, firstBlock}
 use Rattle.model.specs.Checks.{isStarted, live}
-use Rattle.model.specs.Calls.{enter, exit, startHelper, allocate, load, read, loadRights}
+use Rattle.model.specs.Calls.{enter, exit, startHelper, remove, allocate, load, read, loadRights}
 use Rattle.model.specs.Run.{Element, Line, World, run}
-use Rattle.model.specs.History.{Object, History, startedIn, threadRow, occurrences, total, historyOf}
-use Rattle.model.specs.Values.{readStatus, readValue, entryGeneration, entriesLeft, loadAnswer, tableAfter, mayIn, helperAnswer}
+use Rattle.model.specs.History.{Object, History, startedIn, madeIn, threadRow, occurrences, total, historyOf}
+use Rattle.model.specs.Values.{readStatus, readValue, entryGeneration, entriesLeft, loadAnswer, tableAfter, mayIn, helperAnswer, removeAnswer}
 
 -- ---- the words of the claims
 
@@ -68,6 +70,18 @@ pub record Within (s : State) (m : Memory) (a : ℕ) (o : Object) : Type 0 where
   pub ends : suc (offsetOf (o .handle) + o .slots + o .dataWords) ≤ areaAt s a .used
   pub used : areaAt s a .used ≤ areaAt s a .size
   pub inside : areaAt s a .start + areaAt s a .size ≤ length (storeOf m a)
+
+-- scope a lies in whole blocks: it starts with its first block, and the blocks that hold its size, by the history, end within those of scratch
+pub record Room (s : State) (b : History) (a : ℕ) : Type 0 where
+  pub start : areaAt s a .start ≡ blockWords * firstBlock (areaAt s a)
+  pub ends : firstBlock (areaAt s a) + blocksFor (b .sizes a) ≤ blockCount s
+
+-- block k is one of those of a scope that is made, by the history
+pub record Uses (s : State) (b : History) (k : ℕ) : Type 0 where
+  pub scope : ℕ
+  pub low : 2 ≤ scope
+  pub from : firstBlock (areaAt s scope) ≤ k
+  pub to : k < firstBlock (areaAt s scope) + blocksFor (b .sizes scope)
 
 -- a line of an accepted allocation that gave x, by a thread whose row has area a on top
 pub record Allocates (b : History) (l : Line) (x a : ℕ) : Type 0 where
@@ -172,3 +186,16 @@ pub record Claims (w : World) (b : History) : Type 0 where
   -- 10. The start of a helper answers by the lines before: so none has a kind that may not enter each area of its starter's row, by the table in force.
   pub helpers : (l : Line) (before : List Line) → Follows l before (w .trace) → (t p q : ℕ) → l .call ≡ startHelper t p q
       → l .reply .status ≢ 1 → l .reply .status ≡ helperAnswer before t p q
+  -- 11. Which scopes are made, by the lines: a removed one is not. Its size is the one that was asked for, not that of its room.
+  pub made : (a : ℕ) → isMade (w .state) a ≡ madeIn b a
+  pub sizes : (a : ℕ) → 2 ≤ a → areaAt (w .state) a .size ≡ b .sizes a
+  -- "Scratch is now handed out in whole blocks of 16 words (a shorter rest of S is not used)"
+  pub rooms : (a : ℕ) → 2 ≤ a → 0 < b .sizes a → Room (w .state) b a
+  -- No two scopes that are made share a word.
+  pub apart : (a c : ℕ) → 2 ≤ a → 2 ≤ c → a ≢ c → (j k : ℕ) → j < b .sizes a → k < b .sizes c
+      → areaAt (w .state) a .start + j ≢ areaAt (w .state) c .start + k
+  -- "a vector of used bits": those of the blocks of scopes that are made are 1, and no other; so 0c "frees its room", and nothing else does
+  pub used : (k : ℕ) → (bitAt (w .state .usedBits) k ≡ 1) ↔ Uses (w .state) b k
+  -- A removal answers by the lines before: so no open scope is ever removed, and one that was removed is not there until it is made again.
+  pub removes : (l : Line) (before : List Line) → Follows l before (w .trace) → (t q : ℕ) → l .call ≡ remove t q
+      → l .reply .status ≢ 1 → l .reply .status ≡ removeAnswer (historyOf before) t q

@@ -1,14 +1,14 @@
 -- What document 01 calls the book: "fed the calls' arguments and answers alone and .. empty at set-up". By its type it sees nothing else.
 -- Assumes nothing.
 use Prim.Native.Nat.{ℕ, suc, _+_}
-use mathlib.Core.Bool.{Bool, _&&_}
+use mathlib.Core.Bool.{Bool, _&&_, _||_}
 use mathlib.Core.List.{List, [], _∷_, _++_, map}
 use lib.Dec.{eqb, ltb}
 use lib.ListN.{getD, set, replicate}
 use Rattle.layout.specs.Choice.{pick}
 use Rattle.layout.specs.Handle.{null}
 use Rattle.model.specs.State.{current, innermost, isScope}
-use Rattle.model.specs.Calls.{Call, start, end, make, enter, exit, startHelper, allocate, store, write, asks, configure}
+use Rattle.model.specs.Calls.{Call, start, end, make, enter, exit, startHelper, remove, allocate, store, write, asks, configure}
 use Rattle.model.specs.Run.{Line}
 
 -- an object made: its handle, its slots and its data words
@@ -19,12 +19,13 @@ pub record Object : Type 0 where
 
 -- "a row of areas for each started thread, a parent for each open scope, and the objects made": a row has its top first; a parent is 0 for
 -- none; the live objects stand by area, the newest first; gone has the handles of the objects that are gone. Beside these, as arguments and
--- answers tell them: the kind of each thread, 0 while it is not started; of the object with a handle, each slot as last stored, null if it
+-- answers tell them: the kind of each thread, 0 while it is not started; the size of each scope that is made, 0 where it is not; of the object with a handle, each slot as last stored, null if it
 -- never was, and each data word as last written, 0 if it never was and suc v for the word v.
 pub record History : Type 0 where
   pub kinds : ℕ → ℕ
   pub rows : List (List ℕ)
   pub parents : ℕ → ℕ
+  pub sizes : ℕ → ℕ
   pub objects : ℕ → List Object
   pub gone : List ℕ
   pub stored : ℕ → ℕ → ℕ
@@ -35,6 +36,7 @@ blank = record {
   kinds = λ t. 0;
   rows = replicate 16 [];
   parents = λ a. 0;
+  sizes = λ a. 0;
   objects = λ a. [];
   gone = [];
   stored = λ h i. null;
@@ -44,6 +46,10 @@ blank = record {
 -- a started thread has a kind
 abbrev pub startedIn : History → ℕ → Bool
 startedIn b t = ltb 0 (b .kinds t)
+
+-- "A removed scope counts as not made": heap and immortal are always there, a scope while it has a size
+abbrev pub madeIn : History → ℕ → Bool
+madeIn b a = ltb a 2 || ltb 0 (b .sizes a)
 
 abbrev pub threadRow : History → ℕ → List ℕ
 threadRow b t = getD (b .rows) t []
@@ -78,6 +84,7 @@ historyThread b t kind row = record {
   kinds = putAt (b .kinds) t kind;
   rows = set (b .rows) t row;
   parents = b .parents;
+  sizes = b .sizes;
   objects = b .objects;
   gone = b .gone;
   stored = b .stored;
@@ -92,12 +99,26 @@ historyStart b t kind = historyThread b t kind []
 abbrev pub historyHelper : History → ℕ → ℕ → ℕ → History
 historyHelper b t kind q = historyThread b q kind (threadRow b t)
 
+-- 03 makes scope q of a size; 0c removes it, and it has none
+unfoldable pub historySize : History → ℕ → ℕ → History
+historySize b q size = record {
+  kinds = b .kinds;
+  rows = b .rows;
+  parents = b .parents;
+  sizes = putAt (b .sizes) q size;
+  objects = b .objects;
+  gone = b .gone;
+  stored = b .stored;
+  written = b .written;
+}
+
 -- "04: where q is a scope on no row, its parent becomes the innermost scope of the thread's row, or none. Then q goes on top of that row."
 unfoldable pub historyEnter : History → ℕ → ℕ → History
 historyEnter b t q = record {
   kinds = b .kinds;
   rows = set (b .rows) t (q ∷ threadRow b t);
   parents = pick (isScopeOnNone q (b .rows)) (putAt (b .parents) q (innermost (threadRow b t))) (b .parents);
+  sizes = b .sizes;
   objects = b .objects;
   gone = b .gone;
   stored = b .stored;
@@ -113,6 +134,7 @@ historyExit b t =
       kinds = b .kinds;
       rows = left;
       parents = pick (isScopeOnNone q left) (putAt (b .parents) q 0) (b .parents);
+      sizes = b .sizes;
       objects = pick (isScopeOnNone q left) (putAt (b .objects) q []) (b .objects);
       gone = pick (isScopeOnNone q left) (handles (b .objects q) ++ b .gone) (b .gone);
       stored = b .stored;
@@ -128,6 +150,7 @@ historyAllocate b t o =
       kinds = b .kinds;
       rows = b .rows;
       parents = b .parents;
+      sizes = b .sizes;
       objects = putAt (b .objects) a (o ∷ b .objects a);
       gone = b .gone;
       stored = putAt (b .stored) (o .handle) (λ i. null);
@@ -144,6 +167,7 @@ historyWords b stored written = record {
   kinds = b .kinds;
   rows = b .rows;
   parents = b .parents;
+  sizes = b .sizes;
   objects = b .objects;
   gone = b .gone;
   stored = stored;
@@ -162,10 +186,11 @@ historyWrite b p q r = historyWords b (b .stored) (putWord (b .written) p q (suc
 abbrev pub historyStep : History → Call → ℕ → History
 historyStep b (start t p) v = historyStart b t p
 historyStep b (end t) v = historyStart b t 0
-historyStep b (make t q r) v = b
+historyStep b (make t q r) v = historySize b q r
 historyStep b (enter t q) v = historyEnter b t q
 historyStep b (exit t) v = historyExit b t
 historyStep b (startHelper t p q) v = historyHelper b t p q
+historyStep b (remove t q) v = historySize b q 0
 historyStep b (allocate t q r) v = historyAllocate b t (record { handle = v; slots = q; dataWords = r })
 historyStep b (store t p q r) v = historyStore b p q r
 historyStep b (write t p q r) v = historyWrite b p q r

@@ -1,15 +1,17 @@
 -- The invariant of the state alone, which set-up gives and every call keeps, refused or not, whatever the lent words hold.
 -- Assumes nothing.
-use Prim.Native.Nat.{ℕ, suc, _+_, _/_, _≤_, _<_}
+use Prim.Native.Nat.{ℕ, suc, _+_, _*_, _/_, _%_, _≤_, _<_}
 use mathlib.Core.List.{List, [], _∷_, map}
 use mathlib.Core.Path.{_≡_}
 use mathlib.Core.Logic.{_≢_}
 use lib.ListN.{length, getD}
 use Rattle.layout.specs.Choice.{pick}
 use Rattle.layout.specs.Stack.{down}
+use Rattle.bitmap.specs.Bitmap.{bitAt}
 use Rattle.rights.specs.Rights.{Loadable}
 use Rattle.model.specs.declared.Area.{Area}
 use Rattle.model.specs.State.{Thread, State, noThread, areaAt, entriesOf, innermost, isScope, displayAt}
+use Rattle.model.specs.Blocks.{blockWords, blockCount, blocksFor, HasBlock}
 use Rattle.model.specs.Scopes.{lastGeneration}
 use Rattle.model.specs.History.{total}
 
@@ -83,7 +85,15 @@ pub record ScopeGood (x : Area) : Type 0 where
   pub no-words : x .count ≡ 0 → x .used ≡ 0
   pub no-depth : x .count ≡ 0 → x .depth ≡ 0
 
--- where the areas lie: heap, then immortal, fill the permanent store; scopes share the scratch words that are taken and no word
+-- a scope that has block k
+pub record Owner (s : State) (k : ℕ) : Type 0 where
+  pub scope : ℕ
+  pub low : 2 ≤ scope
+  pub high : scope < 64
+  pub has : HasBlock (areaAt s scope) k
+
+-- Where the areas lie: heap, then immortal, fill the permanent store; scopes lie in whole blocks of scratch and share no word, and a used bit is 1 where a
+-- scope has its block.
 pub record Placed (s : State) : Type 0 where
   pub permanent : s .lengths .permanent ≤ 16384
   pub scratch : s .lengths .scratch ≤ 16384
@@ -91,11 +101,14 @@ pub record Placed (s : State) : Type 0 where
   pub heap : areaAt s 0 .start ≡ 0
   pub immortal : areaAt s 1 .start ≡ areaAt s 0 .size
   pub whole : areaAt s 0 .size + areaAt s 1 .size ≡ s .lengths .permanent
-  pub taken : s .taken ≤ s .lengths .scratch
-  pub below : (a : ℕ) → 2 ≤ a → a < 64 → areaAt s a .start + areaAt s a .size ≤ s .taken
+  pub bits : length (s .usedBits) ≡ 16
+  pub aligned : (a : ℕ) → 2 ≤ a → a < 64 → areaAt s a .start % blockWords ≡ 0
+  pub below : (a : ℕ) → 2 ≤ a → a < 64 → areaAt s a .start + blockWords * blocksFor (areaAt s a .size) ≤ blockWords * blockCount s
   pub used : (a : ℕ) → a < 64 → areaAt s a .used ≤ areaAt s a .size
   pub apart : (a c : ℕ) → 2 ≤ a → a < 64 → 2 ≤ c → c < 64 → a ≢ c
       → (j k : ℕ) → j < areaAt s a .size → k < areaAt s c .size → areaAt s a .start + j ≢ areaAt s c .start + k
+  pub held : (a : ℕ) → 2 ≤ a → a < 64 → (k : ℕ) → HasBlock (areaAt s a) k → bitAt (s .usedBits) k ≡ 1
+  pub owned : (k : ℕ) → bitAt (s .usedBits) k ≢ 0 → Owner s k
 
 -- ---- the whole
 

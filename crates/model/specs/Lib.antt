@@ -1,10 +1,12 @@
 -- The machine of document 01, call by call; every list of calls; the history and the values that it tells; and what is claimed after each.
 pub mod State
+pub mod Blocks
 pub mod SetUp
 pub mod Checks
 pub mod Threads
 pub mod Scopes
 pub mod Helpers
+pub mod Removal
 pub mod Objects
 pub mod References
 pub mod Data

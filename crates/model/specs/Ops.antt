@@ -8,12 +8,12 @@ use lib.Dec.{eqb}
 use Rattle.layout.specs.Choice.{pick}
 use Rattle.model.specs.declared.Op.{Op}
 use Rattle.model.specs.declared.Op.the-variants.{State, Memory, Question}
-use Rattle.model.specs.declared.StateOp.the-variants.{Start, End, Make, Enter, Exit, StartHelper}
+use Rattle.model.specs.declared.StateOp.the-variants.{Start, End, Make, Enter, Exit, StartHelper, Remove}
 use Rattle.model.specs.declared.MemoryOp.the-variants.{Allocate, Store, Write}
 use Rattle.model.specs.declared.QuestionOp.the-variants.{Load, Read}
 use Rattle.model.specs.declared.Opcode.{Opcode}
 use Rattle.model.specs.declared.Opcode.the-variants.{Known, Unknown}
-use Rattle.model.specs.Calls.{Call, start, end, make, enter, exit, startHelper, allocate, store, load, write, read}
+use Rattle.model.specs.Calls.{Call, start, end, make, enter, exit, startHelper, remove, allocate, store, load, write, read}
 
 -- a row of the table "op | call (fields used)": the number, which of p, q and r are used, and the call; every op uses the thread t
 pub record OpRow : Type 0 where
@@ -49,12 +49,14 @@ rowOf (Memory Write) = row 0x09 true true true (λ t p q r. write t p q r)
 rowOf (Question Read) = row 0x0a true true false (λ t p q r. read t p q)
 -- "Op 0b: p is the kind, q the new thread's number."
 rowOf (State StartHelper) = row 0x0b true true false (λ t p q r. startHelper t p q)
+-- "Op 0c removes scope q"
+rowOf (State Remove) = row 0x0c false true false (λ t p q r. remove t q)
 
 -- the table's column "op"
 abbrev pub ops : List Op
 ops =
     State Start ∷ State End ∷ State Make ∷ State Enter ∷ State Exit ∷ Memory Allocate ∷ Memory Store ∷ Question Load ∷ Memory Write ∷ Question Read
-    ∷ State StartHelper ∷ []
+    ∷ State StartHelper ∷ State Remove ∷ []
 
 -- an op with the "(fields used)"
 abbrev pub codeOf : Op → Opcode
@@ -81,6 +83,7 @@ op-of-number (State Make) = refl
 op-of-number (State Enter) = refl
 op-of-number (State Exit) = refl
 op-of-number (State StartHelper) = refl
+op-of-number (State Remove) = refl
 op-of-number (Memory Allocate) = refl
 op-of-number (Memory Store) = refl
 op-of-number (Question Load) = refl

@@ -1,6 +1,6 @@
 -- Ops 03, 04 and 05: scopes are made, entered and left.
 -- Assumes nothing.
-use Prim.Native.Nat.{ℕ, suc, pred, _+_, _-_}
+use Prim.Native.Nat.{ℕ, suc, pred, _+_, _*_}
 use mathlib.Core.Bool.{Bool, not, _&&_, _||_}
 use lib.Dec.{eqb, leb, ltb}
 use lib.ListN.{set}
@@ -8,25 +8,28 @@ use Rattle.layout.specs.Choice.{pick, refuse}
 use Rattle.layout.specs.Display.{extendedRow}
 use Rattle.rights.specs.declared.Right.the-variants.{Enter}
 use Rattle.model.specs.declared.Area.{Area}
-use Rattle.model.specs.State.{Thread, State, areaAt, rowAt, threadAt, withWords, withUsed, withGeneration, withCount, withParent, withStack, withArea, withRow, withThread, withTaken, entriesOf, stackAt, current, innermost, isScope, isMade, isOpen}
+use Rattle.model.specs.State.{Thread, State, areaAt, rowAt, threadAt, withWords, withUsed, withGeneration, withCount, withParent, withStack, withArea, withRow, withThread, entriesOf, stackAt, current, innermost, isScope, isNoScope, isMade, isOpen}
+use Rattle.model.specs.Blocks.{blockWords, blocksFor, roomFor, noRoom, withUsedBlocks}
 use Rattle.model.specs.Checks.{called, Change, hasRight}
 
 -- ---- op 03, make scope
 
--- refusals 2, 6, 7, 8 after 1: "op 03: outside 2 to 63", "7: scope already made", "8: size 0 or above the unused scratch words"
+-- refusals 2, 6, 7, 8 after 1: "op 03: outside 2 to 63", "7: scope already made", "Refusal 8 now means size 0 or no such run"
 unfoldable pub makeRest : State → ℕ → ℕ → ℕ → ℕ
 makeRest s t q r =
     called s t
-    (refuse (ltb q 2 || leb 64 q) 6
+    (refuse (isNoScope q) 6
     (refuse (isMade s q) 7
-    (refuse (eqb r 0 || ltb (s .lengths .scratch - s .taken) r) 8 0)))
+    (refuse (eqb r 0 || noRoom s r) 8 0)))
 
--- "A scope is made with a size in words; it takes the next unused scratch words, from word 0 on."
+-- "A scope is made with a size in words", which stays as asked; its words start with the first block of its room. "An area number made again continues its
+-- old turns": all else of its record stays.
 abbrev pub madeArea : Area → ℕ → ℕ → Area
-madeArea x start size = withWords x start size
+madeArea x block size = withWords x (blockWords * block) size
 
+-- op 03, "make scope (q area, r size)": the scope lies in its room, whose blocks are used
 unfoldable pub makeState : State → ℕ → ℕ → State
-makeState s q r = withTaken (withArea s q (madeArea (areaAt s q) (s .taken) r)) (s .taken + r)
+makeState s q r = withUsedBlocks (withArea s q (madeArea (areaAt s q) (roomFor s r) r)) (roomFor s r) (blocksFor r)
 
 abbrev pub makeChange : State → ℕ → ℕ → ℕ → Change
 makeChange s t q r = record { status = makeRest s t q r; value = 0; state = makeState s q r }

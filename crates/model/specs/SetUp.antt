@@ -37,14 +37,14 @@ standing start size = record { start = start; size = size; used = 0; generation 
 abbrev pub newThread : Thread
 newThread = record { kind = 0; len = 0; entries = replicate 32 0; inner = replicate 32 0 }
 
--- heap first, then immortal; no scope is made, no thread is started, no scratch word is taken; "the constant table .. stays in force until a load"
+-- heap first, then immortal; no scope is made, no thread is started, no block of scratch is used; "the constant table .. stays in force until a load"
 unfoldable pub firstState : ℕ → ℕ → Lengths → State
 firstState h i n = record {
   areas = standing 0 h ∷ standing h i ∷ replicate 62 noArea;
   rows = replicate 64 (replicate 32 0);
   threads = replicate 16 newThread;
   lengths = n;
-  taken = 0;
+  usedBits = replicate 16 0;
   rights = builtIn;
 }
 

@@ -19,14 +19,14 @@ pub record Thread : Type 0 where
   pub entries : List ℕ
   pub inner : List ℕ
 
--- The areas 0 to 63, the row of each one's display, the threads 0 to 15, the lengths of set-up, how many scratch words are taken, and the rights
--- table in force: 36 text digits.
+-- The areas 0 to 63, the row of each one's display, the threads 0 to 15, the lengths of set-up, "a vector of used bits", one for each block of
+-- scratch, in 16 words, and the rights table in force: 36 text digits.
 pub record State : Type 0 where
   pub areas : List Area
   pub rows : List (List ℕ)
   pub threads : List Thread
   pub lengths : Lengths
-  pub taken : ℕ
+  pub usedBits : List ℕ
   pub rights : List ℕ
 
 -- "Three buffers of 64-bit words: the permanent store of P words (heap first, then immortal), the scratch store of S words (scopes), and
@@ -100,19 +100,19 @@ withStack h len entries inner = record { kind = h .kind; len = len; entries = en
 -- ---- a state with a part replaced
 
 unfoldable pub withArea : State → ℕ → Area → State
-withArea s a x = record { areas = set (s .areas) a x; rows = s .rows; threads = s .threads; lengths = s .lengths; taken = s .taken; rights = s .rights }
+withArea s a x = record { areas = set (s .areas) a x; rows = s .rows; threads = s .threads; lengths = s .lengths; usedBits = s .usedBits; rights = s .rights }
 
 unfoldable pub withRow : State → ℕ → List ℕ → State
-withRow s a r = record { areas = s .areas; rows = set (s .rows) a r; threads = s .threads; lengths = s .lengths; taken = s .taken; rights = s .rights }
+withRow s a r = record { areas = s .areas; rows = set (s .rows) a r; threads = s .threads; lengths = s .lengths; usedBits = s .usedBits; rights = s .rights }
 
 unfoldable pub withThread : State → ℕ → Thread → State
-withThread s t h = record { areas = s .areas; rows = s .rows; threads = set (s .threads) t h; lengths = s .lengths; taken = s .taken; rights = s .rights }
+withThread s t h = record { areas = s .areas; rows = s .rows; threads = set (s .threads) t h; lengths = s .lengths; usedBits = s .usedBits; rights = s .rights }
 
-unfoldable pub withTaken : State → ℕ → State
-withTaken s n = record { areas = s .areas; rows = s .rows; threads = s .threads; lengths = s .lengths; taken = n; rights = s .rights }
+unfoldable pub withUsedBits : State → List ℕ → State
+withUsedBits s u = record { areas = s .areas; rows = s .rows; threads = s .threads; lengths = s .lengths; usedBits = u; rights = s .rights }
 
 unfoldable pub withRights : State → List ℕ → State
-withRights s r = record { areas = s .areas; rows = s .rows; threads = s .threads; lengths = s .lengths; taken = s .taken; rights = r }
+withRights s r = record { areas = s .areas; rows = s .rows; threads = s .threads; lengths = s .lengths; usedBits = s .usedBits; rights = r }
 
 -- ---- stacks
 
@@ -139,6 +139,10 @@ innermost (x ∷ l) = pick (leb 2 x) x (innermost l)
 -- "Area 0 is the heap, 1 immortal, 2 to 63 scopes."
 abbrev pub isScope : ℕ → Bool
 isScope a = leb 2 a
+
+-- "outside 2 to 63"
+abbrev pub isNoScope : ℕ → Bool
+isNoScope a = ltb a 2 || leb 64 a
 
 -- heap and immortal are always there; a scope that is made has a size above 0, by refusal 8
 abbrev pub madeAs : Area → ℕ → Bool

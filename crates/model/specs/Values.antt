@@ -1,20 +1,20 @@
 -- What the lines so far say of an answer to come: what a read answers, the generation that an entry gives, the entries that an exit leaves; what
--- a load of rights and the start of a helper answer, which rights table is in force, and which rights a thread has by it.
+-- a load of rights, the start of a helper and a removal answer, which rights table is in force, and which rights a thread has by it.
 -- Assumes nothing.
 use Prim.Native.Nat.{ℕ, zero, suc}
-use mathlib.Core.Bool.{Bool, not, _&&_}
+use mathlib.Core.Bool.{Bool, not, _&&_, _||_}
 use mathlib.Core.List.{List, [], _∷_}
-use lib.Dec.{eqb, leb}
+use lib.Dec.{eqb, leb, ltb}
 use Rattle.layout.specs.Choice.{pick, refuse}
 use Rattle.layout.specs.Below.{someBelow}
 use Rattle.rights.specs.Rights.{builtIn, classOf, allows, isTable}
 use Rattle.rights.specs.declared.Right.{Right}
-use Rattle.model.specs.State.{current, isScope}
+use Rattle.model.specs.State.{current, isScope, isNoScope}
 use Rattle.model.specs.Threads.{isKind}
 use Rattle.model.specs.Helpers.{mayEnterAll}
-use Rattle.model.specs.Calls.{Call, start, end, make, enter, exit, startHelper, allocate, store, write, asks, Configuration, rightsTable, configure}
+use Rattle.model.specs.Calls.{Call, start, end, make, enter, exit, startHelper, remove, allocate, store, write, asks, Configuration, rightsTable, configure}
 use Rattle.model.specs.Run.{Line}
-use Rattle.model.specs.History.{History, startedIn, threadRow, total, isScopeOnNone, historyExit, historyOf}
+use Rattle.model.specs.History.{History, startedIn, madeIn, threadRow, total, isScopeOnNone, historyExit, historyOf}
 
 -- ---- op 0a: "value: word"
 
@@ -38,6 +38,7 @@ openingStep b a g (make t q r) v = g
 openingStep b a g (enter t q) v = pick (isScopeOnNone q (b .rows) && eqb q a) v g
 openingStep b a g (exit t) v = g
 openingStep b a g (startHelper t p q) v = g
+openingStep b a g (remove t q) v = g
 openingStep b a g (allocate t q r) v = g
 openingStep b a g (store t p q r) v = g
 openingStep b a g (write t p q r) v = g
@@ -85,6 +86,7 @@ tableStep table (make t q r) = table
 tableStep table (enter t q) = table
 tableStep table (exit t) = table
 tableStep table (startHelper t p q) = table
+tableStep table (remove t q) = table
 tableStep table (allocate t q r) = table
 tableStep table (store t p q r) = table
 tableStep table (write t p q r) = table
@@ -116,3 +118,14 @@ helperAnswer ls t p q =
     (refuse (startedIn (historyOf ls) q) 3
     (refuse (not (isKind p)) 4
     (refuse (not (mayEnterAll (tableAfter ls) p (threadRow (historyOf ls) t))) 5 0)))))
+
+-- ---- op 0c
+
+-- what a removal answers after the history b, where 1 does not refuse it: "2, 6 (outside 2 to 63, or not made). 20 when the scope is open, after 6": on
+-- some row
+unfoldable pub removeAnswer : History → ℕ → ℕ → ℕ
+removeAnswer b t q =
+    refuse (leb 16 t) 2
+    (refuse (not (startedIn b t)) 2
+    (refuse (isNoScope q || not (madeIn b q)) 6
+    (refuse (ltb 0 (total q (b .rows))) 20 0)))

@@ -28,6 +28,7 @@ pub enum StateOp {
     Enter,
     Exit,
     StartHelper,
+    Remove,
 }
 
 // The ops that write lent words.
@@ -43,7 +44,7 @@ pub enum QuestionOp {
     Read,
 }
 
-// The ops, 01 to 0b, by what they may touch.
+// The ops, 01 to 0c, by what they may touch.
 pub enum Op {
     State(StateOp),
     Memory(MemoryOp),

@@ -7,7 +7,7 @@ use native.Mathlib.Omega.{arith}
 use Rattle.objects.specs.declared.find.Resolved.{Resolved}
 use Rattle.objects.specs.declared.check.Checked.{Checked}
 use Rattle.objects.specs.declared.check.Checked.the-variants.{Passed, Refused}
-use Rattle.objects.specs.Verdict.{Cases, verdictOf, passed-verdict, stopped-verdict, verdict-passed, verdict-stopped}
+use Rattle.layout.specs.Verdict.{Cases, verdictOf, passed-verdict, stopped-verdict, verdict-passed, verdict-stopped}
 
 -- the number of each case
 abbrev pub numberOf : Checked → ℕ

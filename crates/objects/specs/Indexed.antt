@@ -13,7 +13,7 @@ use Rattle.objects.specs.declared.index.Part.the-variants.{Slots, Data}
 use Rattle.objects.specs.declared.index.WordPlace.{WordPlace}
 use Rattle.objects.specs.declared.index.Indexed.{Indexed}
 use Rattle.objects.specs.declared.index.Indexed.the-variants.{At, Refused}
-use Rattle.objects.specs.Verdict.{Cases, verdictOf}
+use Rattle.layout.specs.Verdict.{Cases, verdictOf}
 
 -- how many words a part of an object has, and which of the words after the header is its first
 abbrev pub partCount : Part → Resolved → ℕ

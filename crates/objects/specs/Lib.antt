@@ -4,7 +4,6 @@ pub mod Found
 pub mod Places
 pub mod Steps
 pub mod Stores
-pub mod Verdict
 pub mod Checked
 pub mod Indexed
 pub mod Resolving

@@ -23,6 +23,7 @@ pub fn op_of(number: u64) -> Opcode
         0x09 => Opcode::Known(Op::Memory(MemoryOp::Write), true, true, true),
         0x0a => Opcode::Known(Op::Question(QuestionOp::Read), true, true, false),
         0x0b => Opcode::Known(Op::State(StateOp::StartHelper), true, true, false),
+        0x0c => Opcode::Known(Op::State(StateOp::Remove), false, true, false),
         _ => Opcode::Unknown,
     }
 }

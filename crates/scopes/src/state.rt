@@ -41,5 +41,6 @@ pub fn carry_state(
             p,
             q,
         ),
+        StateOp::Remove => removal::remove(words, bytes, permanent, scratch, map, written, t, q),
     }
 }

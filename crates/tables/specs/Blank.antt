@@ -9,7 +9,7 @@ use Rattle.rights.specs.Rights.{tableSize}
 use Rattle.model.specs.State.{State, noArea}
 use Rattle.model.specs.SetUp.{newThread}
 use Rattle.tables.specs.Cut.{cut, each, each-length, each-at}
-use Rattle.tables.specs.Decode.{areaCount, threadCount, areaIndex, threadIndex, lengthsAt, takenAt, wordCount, rowBytes, rowIndex, innerRows, displayRows, rightsAt, byteCount, areaRecord, byteRow, threadOf, displayRow, rightsOf, stateOf, Shaped, Holds}
+use Rattle.tables.specs.Decode.{areaCount, threadCount, areaIndex, threadIndex, lengthsAt, usedBitsAt, usedBitsWords, wordCount, rowBytes, rowIndex, innerRows, displayRows, rightsAt, byteCount, areaRecord, byteRow, threadOf, displayRow, usedBitsOf, rightsOf, stateOf, Shaped, Holds}
 
 each-const : {A : Type 0} (f : ℕ → A) (n : ℕ) (x : A) → ((j : ℕ) → f j ≡ x) → each f n ≡ replicate n x
 each-const f n x h =
@@ -29,14 +29,18 @@ zero-rights : rightsOf (replicate byteCount 0) ≡ replicate tableSize 0
 unfolding rightsOf cut
 zero-rights = each-const (λ (j : ℕ). getD (replicate byteCount 0) (rightsAt + j) 0) tableSize 0 (λ j. zeros byteCount (rightsAt + j))
 
--- no area has words, no thread is started, every length is 0, and no table of rights is there
+zero-bits : usedBitsOf (replicate wordCount 0) ≡ replicate usedBitsWords 0
+unfolding usedBitsOf cut
+zero-bits = each-const (λ (j : ℕ). getD (replicate wordCount 0) (usedBitsAt + j) 0) usedBitsWords 0 (λ j. zeros wordCount (usedBitsAt + j))
+
+-- no area has words, no thread is started, every length is 0, no block is used, and no table of rights is there
 abbrev pub blankState : State
 blankState = record {
   areas = replicate areaCount noArea;
   rows = replicate areaCount (replicate rowBytes 0);
   threads = replicate threadCount newThread;
   lengths = record { permanent = 0; scratch = 0; map = 0 };
-  taken = 0;
+  usedBits = replicate usedBitsWords 0;
   rights = replicate tableSize 0;
 }
 
@@ -58,7 +62,7 @@ blank-holds =
         rows = rows i;
         threads = threads i;
         lengths = record { permanent = zeros wordCount lengthsAt i; scratch = zeros wordCount (lengthsAt + 1) i; map = zeros wordCount (lengthsAt + 2) i };
-        taken = zeros wordCount takenAt i;
+        usedBits = zero-bits i;
         rights = zero-rights i;
       };
     }

@@ -12,7 +12,7 @@ use Rattle.tables.specs.declared.ThreadWords.{ThreadWords}
 use Rattle.tables.specs.declared.Entry.{Entry}
 use Rattle.tables.specs.Cut.{cut, put, each}
 
--- ---- where the words lie: the areas, the threads, the three lengths, the scratch words taken
+-- ---- where the words lie: the areas, the threads, the three lengths, the used bits
 
 -- "Area 0 is the heap, 1 immortal, 2 to 63 scopes."
 abbrev pub areaCount : ℕ
@@ -42,11 +42,15 @@ threadIndex t = threadsAt + t * threadWords
 abbrev pub lengthsAt : ℕ
 lengthsAt = threadsAt + threadCount * threadWords
 
-abbrev pub takenAt : ℕ
-takenAt = lengthsAt + 3
+abbrev pub usedBitsAt : ℕ
+usedBitsAt = lengthsAt + 3
+
+-- a bit for each block of scratch, of which there are 1,024 at most
+abbrev pub usedBitsWords : ℕ
+usedBitsWords = 16
 
 abbrev pub wordCount : ℕ
-wordCount = takenAt + 1
+wordCount = usedBitsAt + usedBitsWords
 
 -- ---- where the bytes lie: rows of 32, which are the entries of the threads, the innermost scopes as of them and the displays of the areas; then the rights
 
@@ -93,7 +97,7 @@ putArea w a x =
     set (set (set (set (set (set (set w i (x .start)) (i + 1) (x .size)) (i + 2) (x .used)) (i + 3) (x .generation)) (i + 4) (x .count))
     (i + 5) (x .parent)) (i + 6) (x .depth)
 
--- ---- lengths and scratch
+-- ---- lengths and used bits
 
 abbrev pub lengthsRecord : List ℕ → Lengths
 lengthsRecord w = record { permanent = getD w lengthsAt 0; scratch = getD w (lengthsAt + 1) 0; map = getD w (lengthsAt + 2) 0 }
@@ -101,11 +105,11 @@ lengthsRecord w = record { permanent = getD w lengthsAt 0; scratch = getD w (len
 abbrev pub putLengths : List ℕ → Lengths → List ℕ
 putLengths w n = set (set (set w lengthsAt (n .permanent)) (lengthsAt + 1) (n .scratch)) (lengthsAt + 2) (n .map)
 
-abbrev pub takenOf : List ℕ → ℕ
-takenOf w = getD w takenAt 0
+unfoldable pub usedBitsOf : List ℕ → List ℕ
+usedBitsOf w = cut w usedBitsAt usedBitsWords
 
-abbrev pub putTaken : List ℕ → ℕ → List ℕ
-putTaken w n = set w takenAt n
+unfoldable pub putUsedBits : List ℕ → List ℕ → List ℕ
+putUsedBits w u = put w usedBitsAt u
 
 -- ---- rows of bytes
 
@@ -172,7 +176,7 @@ stateOf w b = record {
   rows = each (displayRow b) areaCount;
   threads = each (threadOf w b) threadCount;
   lengths = lengthsRecord w;
-  taken = takenOf w;
+  usedBits = usedBitsOf w;
   rights = rightsOf b;
 }
 

@@ -14,12 +14,12 @@ use lib.Seq.{ext-getD, getD-set-same, getD-set-other}
 use Rattle.rights.specs.Rights.{tableSize}
 use Rattle.model.specs.declared.Area.{Area}
 use Rattle.model.specs.declared.Lengths.{Lengths}
-use Rattle.model.specs.State.{State, Thread, noArea, noThread, areaAt, rowAt, threadAt, withArea, withRow, withThread, withTaken, withRights}
+use Rattle.model.specs.State.{State, Thread, noArea, noThread, areaAt, rowAt, threadAt, withArea, withRow, withThread, withUsedBits, withRights, madeAs, isMade}
 use Rattle.tables.specs.declared.ThreadWords.{ThreadWords}
 use Rattle.tables.specs.declared.Entry.{Entry}
-use Rattle.tables.specs.Cut.{cut, put, each, from, getD-cut, length-cut, length-put, cut-put, cut-put-other, getD-put-other, cut-set, cut-set-other, each-at, each-set, each-same}
-use Rattle.tables.specs.Decode.{areaCount, threadCount, areaWords, areaIndex, threadsAt, threadWords, threadIndex, lengthsAt, takenAt, wordCount, rowBytes, rowIndex, innerRows, displayRows, rowCount, rightsAt, byteCount}
-use Rattle.tables.specs.Decode.{areaRecord, spareOf, putArea, lengthsRecord, putLengths, takenOf, putTaken, byteRow, putByteRow, byteOf, putByte, threadRecord, putThread, entryRecord, putEntry, copyStack, threadOf, displayRow, putRow, rightsOf, rightOf, putRights, stateOf, Shaped, Holds}
+use Rattle.tables.specs.Cut.{cut, put, each, from, getD-cut, cut-ext, length-cut, length-put, cut-put, cut-put-other, getD-put-other, cut-set, cut-set-other, each-at, each-set, each-same}
+use Rattle.tables.specs.Decode.{areaCount, threadCount, areaWords, areaIndex, threadsAt, threadWords, threadIndex, lengthsAt, usedBitsAt, usedBitsWords, wordCount, rowBytes, rowIndex, innerRows, displayRows, rowCount, rightsAt, byteCount}
+use Rattle.tables.specs.Decode.{areaRecord, spareOf, putArea, lengthsRecord, putLengths, usedBitsOf, putUsedBits, byteRow, putByteRow, byteOf, putByte, threadRecord, putThread, entryRecord, putEntry, copyStack, threadOf, displayRow, putRow, rightsOf, rightOf, putRights, stateOf, Shaped, Holds}
 
 -- ---- the records of a table's state
 
@@ -35,10 +35,19 @@ pub length-row : (b : List ℕ) (a : ℕ) → length (displayRow b a) ≡ rowByt
 unfolding displayRow
 length-row b a = length-byte-row b (displayRows + a)
 
+used-word-read : (w : List ℕ) (i : ℕ) → i < usedBitsWords → getD (usedBitsOf w) i 0 ≡ getD w (usedBitsAt + i) 0
+unfolding usedBitsOf
+used-word-read w i h = getD-cut w usedBitsAt usedBitsWords i h
+
 module _ (w b : List ℕ) where
   pub area-read : (a : ℕ) → a < areaCount → areaAt (stateOf w b) a ≡ areaRecord w a
   unfolding stateOf
   area-read a h = each-at (areaRecord w) areaCount a noArea h
+
+  -- whether it is made, where x is its record
+  pub made-read : (a : ℕ) {x : Area} → a < areaCount → x ≡ areaRecord w a → isMade (stateOf w b) a ≡ madeAs x a
+  unfolding isMade
+  made-read a h e = ap (λ (y : Area). madeAs y a) (area-read a h ∙ sym e)
 
   pub row-read : (a : ℕ) → a < areaCount → rowAt (stateOf w b) a ≡ displayRow b a
   unfolding stateOf
@@ -69,9 +78,9 @@ module _ (w b : List ℕ) where
   unfolding stateOf
   lengths-read = refl
 
-  pub taken-read : stateOf w b .taken ≡ takenOf w
+  pub used-bits-read : stateOf w b .usedBits ≡ usedBitsOf w
   unfolding stateOf
-  taken-read = refl
+  used-bits-read = refl
 
   pub right-read : (i : ℕ) → i < tableSize → getD (stateOf w b .rights) i 0 ≡ rightOf b i
   unfolding stateOf rightsOf
@@ -145,7 +154,7 @@ area-put w a x =
 
 -- the state with other lengths
 abbrev pub withLengths : State → Lengths → State
-withLengths s n = record { areas = s .areas; rows = s .rows; threads = s .threads; lengths = n; taken = s .taken; rights = s .rights }
+withLengths s n = record { areas = s .areas; rows = s .rows; threads = s .threads; lengths = n; usedBits = s .usedBits; rights = s .rights }
 
 -- ---- words that are kept
 
@@ -169,6 +178,11 @@ module _ (w w′ : List ℕ) where
   threads-kept mid b = each-same (threadOf w b) (threadOf w′ b) threadCount noThread (λ j l.
       rw (mid (threadIndex j) (omega arith) (omega arith), mid (threadIndex j + 1) (omega arith) (omega arith)) refl)
 
+  -- the used bits
+  bits-kept : ((j : ℕ) → usedBitsAt ≤ j → getD w′ j 0 ≡ getD w j 0) → usedBitsOf w′ ≡ usedBitsOf w
+  unfolding usedBitsOf
+  bits-kept high = cut-ext w′ w usedBitsAt usedBitsWords (λ k l. high (usedBitsAt + k) (omega arith))
+
 module _ (w b : List ℕ) where
   -- ---- an area is written
 
@@ -181,7 +195,7 @@ module _ (w b : List ℕ) where
       = each-set (areaRecord w) (areaRecord v) areaCount a x same
       (λ j l ne. area-cut v j ∙ ap areaFrom (cut-put-other w (areaIndex a) (wordsOf x) (areaIndex j) 7 (⊎-elim (λ y. inl (omega arith)) (λ y. inr (omega arith)) (sides a j ne))) ∙ sym (area-cut w j)) in
       let high : (j : ℕ) → threadsAt ≤ j → getD v j 0 ≡ getD w j 0 = λ j l. getD-put-other w (areaIndex a) (wordsOf x) j (inr (omega arith)) in
-      rw (areas, threads-kept w v (λ j l k. high j l) b, high lengthsAt (omega arith), high (lengthsAt + 1) (omega arith), high (lengthsAt + 2) (omega arith), high takenAt (omega arith)) refl
+      rw (areas, threads-kept w v (λ j l k. high j l) b, high lengthsAt (omega arith), high (lengthsAt + 1) (omega arith), high (lengthsAt + 2) (omega arith), bits-kept w v (λ j l. high j (omega arith))) refl
 
   -- the spare words are passed over
   area-spare : (a : ℕ) (x : Area) → Spared w → Spared (putArea w a x)
@@ -237,7 +251,7 @@ module _ (w b : List ℕ) where
       ) refl) in
       record {
         sized = record { words = z .long; bytes = z .wide; spare = spare-kept w w′ low (s .spare) };
-        state = rw (areas-kept w w′ low, rows, threads, high lengthsAt (omega arith), high (lengthsAt + 1) (omega arith), high (lengthsAt + 2) (omega arith), high takenAt (omega arith), z .rights) refl;
+        state = rw (areas-kept w w′ low, rows, threads, high lengthsAt (omega arith), high (lengthsAt + 1) (omega arith), high (lengthsAt + 2) (omega arith), bits-kept w w′ (λ j l. high j (omega arith)), z .rights) refl;
       }
 
   -- its words are read back, and every other is kept
@@ -331,12 +345,12 @@ module _ (w b : List ℕ) where
         wide = q .long;
       }))
 
-  -- ---- the lengths and the number of scratch words taken are written
+  -- ---- the lengths and the used bits are written
 
-  tail-laid : (w′ : List ℕ) (n : Lengths) (k : ℕ) → Shaped w b → length w′ ≡ wordCount → ((j : ℕ) → j < lengthsAt → getD w′ j 0 ≡ getD w j 0)
-      → lengthsRecord w′ ≡ n → takenOf w′ ≡ k → Holds w′ b (record { areas = stateOf w b .areas; rows = stateOf w b .rows; threads = stateOf w b .threads; lengths = n; taken = k; rights = stateOf w b .rights })
+  tail-laid : (w′ : List ℕ) (n : Lengths) (u : List ℕ) → Shaped w b → length w′ ≡ wordCount → ((j : ℕ) → j < lengthsAt → getD w′ j 0 ≡ getD w j 0)
+      → lengthsRecord w′ ≡ n → usedBitsOf w′ ≡ u → Holds w′ b (record { areas = stateOf w b .areas; rows = stateOf w b .rows; threads = stateOf w b .threads; lengths = n; usedBits = u; rights = stateOf w b .rights })
   unfolding stateOf
-  tail-laid w′ n k z e low p q =
+  tail-laid w′ n u z e low p q =
       let below : (j : ℕ) → j < threadsAt → getD w′ j 0 ≡ getD w j 0 = λ j h. low j (omega arith) in
       record {
         sized = record { words = e; bytes = z .bytes; spare = spare-kept w w′ below (z .spare) };
@@ -345,18 +359,18 @@ module _ (w b : List ℕ) where
           rows = each (displayRow b) areaCount;
           threads = threads-kept w w′ (λ j l h. low j h) b i;
           lengths = p i;
-          taken = q i;
+          usedBits = q i;
           rights = rightsOf b;
         };
       }
 
-  pub state-taken : (n : ℕ) → Shaped w b → Holds (putTaken w n) b (withTaken (stateOf w b) n)
-  unfolding withTaken stateOf
-  state-taken n z =
-      let zw : length w ≡ wordCount = z .words in
-      let off : (j : ℕ) → j < takenAt → getD (putTaken w n) j 0 ≡ getD w j 0 = λ j k. getD-set-other w takenAt j n 0 (λ e. omega arith) in
-      tail-laid (putTaken w n) (lengthsRecord w) n z (simp length-set zw) (λ j h. off j (omega arith))
-      (rw (off lengthsAt (omega arith), off (lengthsAt + 1) (omega arith), off (lengthsAt + 2) (omega arith)) refl) (getD-set-same w takenAt n 0 (omega arith))
+  pub state-used-bits : (u : List ℕ) → length u ≡ usedBitsWords → Shaped w b → Holds (putUsedBits w u) b (withUsedBits (stateOf w b) u)
+  unfolding withUsedBits stateOf usedBitsOf putUsedBits
+  state-used-bits u k z =
+      let off : (j : ℕ) → j < usedBitsAt → getD (putUsedBits w u) j 0 ≡ getD w j 0 = λ j l. getD-put-other w usedBitsAt u j (inl l) in
+      tail-laid (putUsedBits w u) (lengthsRecord w) u z (length-put w usedBitsAt u ∙ z .words) (λ j h. off j (omega arith))
+      (rw (off lengthsAt (omega arith), off (lengthsAt + 1) (omega arith), off (lengthsAt + 2) (omega arith)) refl)
+      (cut-put w usedBitsAt u usedBitsWords k (omega (arith, z .words)))
 
   pub state-lengths : (n : Lengths) → Shaped w b → Holds (putLengths w n) b (withLengths (stateOf w b) n)
   unfolding stateOf
@@ -373,8 +387,8 @@ module _ (w b : List ℕ) where
       let c : getD (putLengths w n) (lengthsAt + 1) 0 ≡ n .scratch
       = getD-set-other v (lengthsAt + 2) (lengthsAt + 1) (n .map) 0 (λ e. omega arith) ∙ getD-set-same u (lengthsAt + 1) (n .scratch) 0 (omega arith) in
       let d : getD (putLengths w n) (lengthsAt + 2) 0 ≡ n .map = getD-set-same v (lengthsAt + 2) (n .map) 0 (omega arith) in
-      tail-laid (putLengths w n) n (takenOf w) z (simp length-set zw) (λ j h. off j (λ e. omega arith) (λ e. omega arith) (λ e. omega arith))
-      (rw (a, c, d) refl) (off takenAt (λ e. omega arith) (λ e. omega arith) (λ e. omega arith))
+      tail-laid (putLengths w n) n (usedBitsOf w) z (simp length-set zw) (λ j h. off j (λ e. omega arith) (λ e. omega arith) (λ e. omega arith))
+      (rw (a, c, d) refl) (bits-kept w (putLengths w n) (λ j h. off j (λ e. omega arith) (λ e. omega arith) (λ e. omega arith)))
 
   -- ---- the rights table is written
 
@@ -434,8 +448,9 @@ module _ {w b w′ b′ : List ℕ} (z : Shaped w b) (z′ : Shaped w′ b′) (
       high zero q = rw q (ap (λ (s : State). s .lengths .permanent) e)
       high (suc zero) q = rw q (ap (λ (s : State). s .lengths .scratch) e)
       high (suc (suc zero)) q = rw q (ap (λ (s : State). s .lengths .map) e)
-      high (suc (suc (suc zero))) q = rw q (ap (λ (s : State). s .taken) e)
-      high (suc (suc (suc (suc i)))) q = absurd (omega arith)
+      high (suc (suc (suc i))) q =
+          let at : j ≡ usedBitsAt + i = omega arith in
+          rw at (sym (used-word-read w i (omega arith)) ∙ ap (λ (s : State). getD (s .usedBits) i 0) e ∙ used-word-read w′ i (omega arith))
 
   row-same : (n : ℕ) → n < rowCount → byteRow b n ≡ byteRow b′ n
   unfolding threadOf displayRow

@@ -2,7 +2,7 @@
 // `held_*` read and write the records, one crate for each sort, and nothing else does.
 //
 // The words hold 64 areas of 8 words (the last word of each is spare and 0), 16 threads of 2 (kind,
-// length of the stack), the three lengths of set-up and the number of scratch words taken. The bytes
+// length of the stack), the three lengths of set-up and 16 words of used bits, one for each block of scratch. The bytes
 // are rows of 32: row t has the entries of thread t, row 16 + t beside each entry the innermost scope
 // as of it, row 32 + a the display of area a; behind the rows come the 36 digits of the rights table.
 
@@ -34,9 +34,11 @@ pub const THREAD_WORDS: usize = 2;
 
 pub const LENGTHS_AT: usize = THREADS_AT + THREADS * THREAD_WORDS;
 
-pub const TAKEN_AT: usize = LENGTHS_AT + 3;
+pub const USED_BITS_AT: usize = LENGTHS_AT + 3;
 
-pub const WORDS: usize = TAKEN_AT + 1;
+pub const USED_BITS_WORDS: usize = 16;
+
+pub const WORDS: usize = USED_BITS_AT + USED_BITS_WORDS;
 
 pub type Words = [u64; WORDS];
 

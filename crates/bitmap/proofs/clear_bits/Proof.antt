@@ -4,8 +4,9 @@ use mathlib.Core.Path.{_≡_, refl, ap, _∙_}
 use Prim.Native.Nat.{_+_, _-_, _/_, _≤_}
 use native.Mathlib.Omega.{arith}
 use lib.ListN.{length, length-set, set}
-use Rattle.bitmap.specs.Bitmap.{cleared, wordsHolding}
-use Rattle.bitmap.specs.Runs.{cleared-one, cleared-rest, cleared-last}
+use Rattle.bitmap.specs.Bitmap.{withoutDigit, onBits, cleared, wordsHolding}
+use Rattle.bitmap.specs.Digits.{withoutDigits}
+use Rattle.bitmap.specs.Runs.{run-one, run-rest, run-last, clearing}
 use Rattle.bitmap.specs.MapWords.{counted}
 use Rattle.bitmap.proofs.clear_bits.Statement.{statement}
 use Rattle.bitmap.proofs.clear_bits.Tie as tie
@@ -18,7 +19,7 @@ abbrev μ-loop : tie.MeasureT-loop
 μ-loop map₀ w n last first₀ iterations₀ map first iterations = last - first
 
 returns : tie.Need-returns Inv-loop μ-loop
-unfolding cleared wordsHolding
+unfolding onBits wordsHolding
 returns c = rw (c .if1 .taken) (refl, refl)
 
 -- they lie in one map word
@@ -30,12 +31,12 @@ same-length c =
 returns-2 : tie.Need-returns-2 Inv-loop μ-loop
 returns-2 c =
     let a = c .before .before .before .before .before .args in (
-      ap (set (a .map .now) (a .w / 64)) (c .without-digits .ensures) ∙ cleared-one (a .map .now) (a .w) (a .n) (omega arith) (omega arith) (c .before .before .if2 .taken),
+      ap (set (a .map .now) (a .w / 64)) (c .without-digits .ensures) ∙ run-one withoutDigit withoutDigits clearing (a .map .now) (a .w) (a .n) (omega arith) (omega arith) (c .before .before .if2 .taken),
       counted (a .w) (a .n) (a .w) 0 (omega arith) (omega arith) (c .before .before .if2 .taken),
     )
 
 loop-holds : tie.Need-loop-holds Inv-loop μ-loop
-unfolding cleared
+unfolding onBits
 loop-holds c =
     let a = c .before .before .before .args in
     let none : a .w - a .w ≡ 0 = omega arith in
@@ -51,7 +52,7 @@ returns-3 c =
     let l = c .before .before .before .loop in
     let a = c .before .before .before .before .before .before .before .args in (
       ap (set (l .map) (l .first / 64)) (c .without-digits2 .ensures)
-          ∙ cleared-last (a .map .now) (l .map) (a .w) (l .first) (l .inv .0) (l .inv .1) (omega arith) (a .n) (l .inv .2) (c .before .before .if3 .taken) (omega arith),
+          ∙ run-last withoutDigit withoutDigits clearing (a .map .now) (l .map) (a .w) (l .first) (l .inv .0) (l .inv .1) (omega arith) (a .n) (l .inv .2) (c .before .before .if3 .taken) (omega arith),
       counted (a .w) (a .n) (l .first) (l .iterations) (omega arith) (l .inv .3) (c .before .before .if3 .taken),
     )
 
@@ -60,7 +61,7 @@ loop-again c =
     let l = c .before .before .before .loop in
     let a = c .before .before .before .before .before .before .before .args in (
       ap (set (l .map) (l .first / 64)) (c .without-rest .ensures)
-          ∙ cleared-rest (a .map .now) (l .map) (a .w) (l .first) (l .inv .0) (l .inv .1) (omega arith),
+          ∙ run-rest withoutDigit withoutDigits clearing (a .map .now) (l .map) (a .w) (l .first) (l .inv .0) (l .inv .1) (omega arith),
       omega arith,
       omega arith,
       omega arith,

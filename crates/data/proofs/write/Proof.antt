@@ -10,7 +10,7 @@ use Rattle.tables.specs.AnsweredLaws.{answered-refused, answered-accepted}
 use Rattle.callers.specs.Caller.{caller-refused, caller-admitted, admit-rest}
 use Rattle.objects.specs.declared.index.Part.the-variants.{Data}
 use Rattle.objects.specs.Fits.{fits-stores}
-use Rattle.objects.specs.Verdict.{verdict-passed, verdict-stopped}
+use Rattle.layout.specs.Verdict.{verdict-passed, verdict-stopped}
 use Rattle.objects.specs.Indexed.{wordOf, indexed-cases}
 use Rattle.objects.specs.Effects.{word-in}
 use Rattle.data.specs.Written.{written-in, written-word}

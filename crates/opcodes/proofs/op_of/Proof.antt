@@ -5,11 +5,11 @@ use Rattle.model.specs.Ops.{opOf}
 use Rattle.opcodes.proofs.op_of.Statement.{statement}
 use Rattle.opcodes.proofs.op_of.Tie as tie
 
-unknown : tie.Need-returns-12
+unknown : tie.Need-returns-13
 unfolding opOf
 unknown c =
     let n = c .match .rest in
-    simp (ne-eqb _ 1 (n .0 .0 .0 .0 .0 .0 .0 .0 .0 .0 .1), ne-eqb _ 2 (n .0 .0 .0 .0 .0 .0 .0 .0 .0 .1), ne-eqb _ 3 (n .0 .0 .0 .0 .0 .0 .0 .0 .1), ne-eqb _ 4 (n .0 .0 .0 .0 .0 .0 .0 .1), ne-eqb _ 5 (n .0 .0 .0 .0 .0 .0 .1), ne-eqb _ 6 (n .0 .0 .0 .0 .0 .1), ne-eqb _ 7 (n .0 .0 .0 .0 .1), ne-eqb _ 8 (n .0 .0 .0 .1), ne-eqb _ 9 (n .0 .0 .1), ne-eqb _ 10 (n .0 .1), ne-eqb _ 11 (n .1))
+    simp (ne-eqb _ 1 (n .0 .0 .0 .0 .0 .0 .0 .0 .0 .0 .0 .1), ne-eqb _ 2 (n .0 .0 .0 .0 .0 .0 .0 .0 .0 .0 .1), ne-eqb _ 3 (n .0 .0 .0 .0 .0 .0 .0 .0 .0 .1), ne-eqb _ 4 (n .0 .0 .0 .0 .0 .0 .0 .0 .1), ne-eqb _ 5 (n .0 .0 .0 .0 .0 .0 .0 .1), ne-eqb _ 6 (n .0 .0 .0 .0 .0 .0 .1), ne-eqb _ 7 (n .0 .0 .0 .0 .0 .1), ne-eqb _ 8 (n .0 .0 .0 .0 .1), ne-eqb _ 9 (n .0 .0 .0 .1), ne-eqb _ 10 (n .0 .0 .1), ne-eqb _ 11 (n .0 .1), ne-eqb _ 12 (n .1))
 
 pub op-of-spec : {M : Type 1} → statement M
 unfolding opOf
@@ -27,4 +27,5 @@ op-of-spec =
     (λ c. ap opOf (sym (c .match .keys9)))
     (λ c. ap opOf (sym (c .match .keys10)))
     (λ c. ap opOf (sym (c .match .keys11)))
+    (λ c. ap opOf (sym (c .match .keys12)))
     unknown)

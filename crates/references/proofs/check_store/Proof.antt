@@ -12,7 +12,7 @@ use Rattle.model.specs.State.{State, Memory}
 use Rattle.model.specs.References.{mayRefer, slotRest}
 use Rattle.tables.specs.Contract.{stateIn, memoryOf}
 use Rattle.objects.specs.declared.index.Part.the-variants.{Slots}
-use Rattle.objects.specs.Verdict.{passed-verdict, stopped-verdict, verdict-passed, verdict-stopped}
+use Rattle.layout.specs.Verdict.{passed-verdict, stopped-verdict, verdict-passed, verdict-stopped}
 use Rattle.objects.specs.Indexed.{wordOf, indexed-cases}
 use Rattle.objects.specs.Effects.{word-area}
 use Rattle.references.specs.Statuses.{store-no-slot, store-no-reference, store-forbidden, store-allowed}

@@ -11,7 +11,7 @@ use Rattle.model.proofs.Accepted.{UseOk, use-ok}
 use Rattle.tables.specs.Contract.{stateIn, memoryOf}
 use Rattle.objects.specs.Found.{objectOf}
 use Rattle.objects.specs.Checked.{checked-passed, checked-refused}
-use Rattle.objects.specs.Verdict.{passed-verdict, stopped-verdict}
+use Rattle.layout.specs.Verdict.{passed-verdict, stopped-verdict}
 use Rattle.objects.specs.Indexed.{partCount, partStart, indexed-cases}
 use Rattle.objects.specs.Statuses.{index-not-used, index-past, index-in}
 use Rattle.objects.specs.Effects.{word-low, bit-low, word-place}

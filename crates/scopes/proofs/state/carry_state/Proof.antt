@@ -21,6 +21,9 @@ returns-5 c = rw (c .before .before .before .enum-told5 .given .1) (c .exit .ens
 returns-6 : tie.Need-returns-6
 returns-6 c = rw (c .before .before .before .enum-told6 .given .1) (c .start-helper .ensures)
 
+returns-7 : tie.Need-returns-7
+returns-7 c = rw (c .before .before .before .enum-told7 .given .1) (c .remove .ensures)
+
 pub carry-state-spec : {M : Type 1} → statement M
 carry-state-spec =
     tie.close
@@ -31,4 +34,5 @@ carry-state-spec =
     (λ c. search needs) (λ c κs. search needs)
     (λ c. search needs) (λ c κs. search needs)
     (λ c. search needs) (λ c κs. search needs)
-    returns returns-2 returns-3 returns-4 returns-5 returns-6)
+    (λ c. search needs) (λ c κs. search needs)
+    returns returns-2 returns-3 returns-4 returns-5 returns-6 returns-7)

@@ -1,0 +1,2 @@
+-- The part of the words that has the used bits.
+pub mod Part

@@ -1,0 +1,2 @@
+-- Op 0c: laws that its proofs use.
+pub mod Remove

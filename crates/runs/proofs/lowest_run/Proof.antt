@@ -1,0 +1,254 @@
+-- `lowest_run` meets its contract. `Sought` is what the search knows before it looks at a run, `Looking` what it knows while it does: bit `at` is
+-- the next one.
+use mathlib.Core.List.{List}
+use mathlib.Core.Path.{_≡_, sym, _∙_}
+use Prim.Native.Nat.{ℕ, suc, _+_, _-_, _*_, _^_, _≤_, _<_}
+use native.Mathlib.Omega.{arith}
+use Rattle.runs.specs.ClearDown.{digits-bound, all-down, one-down}
+use Rattle.runs.specs.Search.{Sought, Looking, sought-first, looking-first, looking-more, sought-next, found, none}
+use Rattle.runs.proofs.lowest_run.Statement.{statement}
+use Rattle.runs.proofs.lowest_run.Tie as tie
+
+-- the looks so far, and the bits that are left
+looked : {m : List ℕ} {n bits start looks left : ℕ} → Looking m n bits start looks left → looks + left ≤ 2 * bits
+looked l = omega (arith, l .counted, l .ends, l .sought .few, l .sought .within)
+
+-- the run whose last bit is bit `last`, before a bit of it is looked at
+module _ {m : List ℕ} {n bits last looks : ℕ} (some : 0 < n) (low : n ≤ suc last) (high : last < bits) (s : Sought m n bits (last - (n - 1)) looks) where
+  window : Looking m n bits (last - (n - 1)) looks (suc (last - (last - (n - 1))))
+  window = looking-first m n bits (suc (last - (last - (n - 1)))) (omega arith) s (omega arith)
+
+-- the last bit of the next run lies behind that of this one, whose start has a set bit `at` behind it, so less is left
+behind : (start at clear n last first : ℕ) → start ≤ at → clear ≤ at - start → start + n ≡ suc last → first ≤ last → first < at - clear + n
+behind start at clear n last first p q e h = omega arith
+
+-- bit `at - clear` of the run, and the bits that are left with it
+rest-of : (start at clear : ℕ) → start ≤ at → clear ≤ at - start → (start ≤ at - clear) × (clear + suc (at - clear - start) ≡ suc (at - start))
+rest-of start at clear p q = (omega arith, omega arith)
+
+next-start : (at n : ℕ) → 0 < n → at + n - (n - 1) ≡ suc at
+next-start at n h = omega arith
+
+fits-next : (at clear n bits : ℕ) {end : ℕ} → at < end → end ≤ bits → n ≤ bits → bits ≤ 1024 → at - clear + n < 2 ^ 64
+fits-next at clear n bits p q h b = omega arith
+
+less : (all last next : ℕ) → last < next → last < all → all - next < all - last
+less all last next h l = omega arith
+
+abbrev Inv-search : tie.InvT-search
+Inv-search map n bits last₀ looks₀ last looks = (n ≤ suc last) × Sought map n bits (last - (n - 1)) looks
+
+abbrev μ-search : tie.MeasureT-search
+μ-search map n bits last₀ looks₀ last looks = bits + n - last
+
+abbrev Inv-loop : tie.InvT-loop
+Inv-loop map n bits last₀ looks₀ last looks = (n ≤ suc last) × Sought map n bits (last - (n - 1)) looks × (last₀ ≤ last)
+
+abbrev μ-loop : tie.MeasureT-loop
+μ-loop map n bits last₀ looks₀ last looks = bits + n - last
+
+abbrev Inv-loop2 : tie.InvT-loop2
+Inv-loop2 map n bits last₀ looks₀ start at₀ last looks at =
+    Looking map n bits start looks (suc (at - start)) × (start ≤ at) × (start + n ≡ suc last₀) × (at < start + n)
+
+abbrev μ-loop2 : tie.MeasureT-loop2
+μ-loop2 map n bits last₀ looks₀ start at₀ last looks at = at
+
+sub-last : tie.Need-sub-last Inv-loop μ-loop Inv-loop2 μ-loop2 Inv-search μ-search
+sub-last c = omega arith
+
+search-holds : tie.Need-search-holds Inv-loop μ-loop Inv-loop2 μ-loop2 Inv-search μ-search
+search-holds c =
+    let a = c .before .args in
+    let e : a .n - 1 - (a .n - 1) ≡ 0 = omega arith in
+    (omega arith, rw e (sought-first _ _ _))
+
+loop-holds : tie.Need-loop-holds Inv-loop μ-loop Inv-loop2 μ-loop2 Inv-search μ-search
+loop-holds c = (c .search .inv .0, c .search .inv .1, omega arith)
+
+bit-requires : tie.Need-bit-requires Inv-loop μ-loop Inv-loop2 μ-loop2 Inv-search μ-search
+bit-requires c κs = omega arith
+
+add-looks : tie.Need-add-looks Inv-loop μ-loop Inv-loop2 μ-loop2 Inv-search μ-search
+add-looks c =
+    let l = c .before .before .before .loop .inv in
+    omega (arith, looked (window (omega arith) (l .0) (omega arith) (l .1)))
+
+add-last : tie.Need-add-last Inv-loop μ-loop Inv-loop2 μ-loop2 Inv-search μ-search
+add-last c = omega arith
+
+loop-less : tie.Need-loop-less Inv-loop μ-loop Inv-loop2 μ-loop2 Inv-search μ-search
+loop-less c = omega arith
+
+loop-again : tie.Need-loop-again Inv-loop μ-loop Inv-loop2 μ-loop2 Inv-search μ-search
+loop-again c =
+    let l = c .before .before .before .loop in
+    (omega arith, sought-next _ _ _ (omega arith) (window (omega arith) (l .inv .0) (omega arith) (l .inv .1)) (λ z. c .if2 .left (c .before .bit .ensures ∙ z)) _ (omega (arith, l .inv .0)), omega (arith, l .inv .2))
+
+sub-start : tie.Need-sub-start Inv-loop μ-loop Inv-loop2 μ-loop2 Inv-search μ-search
+sub-start c = omega arith
+
+sub-start-2 : tie.Need-sub-start-2 Inv-loop μ-loop Inv-loop2 μ-loop2 Inv-search μ-search
+sub-start-2 c = omega (arith, c .before .before .before .loop .inv .0)
+
+loop2-holds : tie.Need-loop2-holds Inv-loop μ-loop Inv-loop2 μ-loop2 Inv-search μ-search
+loop2-holds c =
+    let l = c .before .before .before .loop .inv in
+    (window (omega arith) (l .0) (omega arith) (l .1), omega arith, omega (arith, l .0), omega (arith, l .0))
+
+digits-down-requires : tie.Need-digits-down-requires Inv-loop μ-loop Inv-loop2 μ-loop2 Inv-search μ-search
+digits-down-requires c κs = let l = c .loop2 .inv in omega (arith, l .0 .ends, l .3)
+
+clear-above-requires : tie.Need-clear-above-requires Inv-loop μ-loop Inv-loop2 μ-loop2 Inv-search μ-search
+clear-above-requires c κs = rw (c .before .digits-down .ensures) (digits-bound (c .before .before .before .before .before .before .before .before .before .args .map .now) _)
+
+sub-if4 : tie.Need-sub-if4 Inv-loop μ-loop Inv-loop2 μ-loop2 Inv-search μ-search
+sub-if4 c = c .before .before .before .loop2 .inv .1
+
+sub-looks : tie.Need-sub-looks Inv-loop μ-loop Inv-loop2 μ-loop2 Inv-search μ-search
+sub-looks c = c .before .before .before .before .loop2 .inv .1
+
+add-looks-2 : tie.Need-add-looks-2 Inv-loop μ-loop Inv-loop2 μ-loop2 Inv-search μ-search
+add-looks-2 c =
+    let l = c .before .before .before .before .loop2 .inv in
+    omega (arith, looked (l .0))
+
+add-looks-3 : tie.Need-add-looks-3 Inv-loop μ-loop Inv-loop2 μ-loop2 Inv-search μ-search
+add-looks-3 c =
+    let l = c .before .before .before .before .loop2 .inv in
+    omega (arith, looked (l .0))
+
+add-looks-4 : tie.Need-add-looks-4 Inv-loop μ-loop Inv-loop2 μ-loop2 Inv-search μ-search
+add-looks-4 c =
+    let l = c .before .before .before .before .loop2 .inv in
+    omega (arith, looked (l .0))
+
+add-looks-5 : tie.Need-add-looks-5 Inv-loop μ-loop Inv-loop2 μ-loop2 Inv-search μ-search
+add-looks-5 c =
+    let l = c .before .before .before .before .loop2 .inv in
+    omega (arith, looked (l .0))
+
+sub-last-2 : tie.Need-sub-last-2 Inv-loop μ-loop Inv-loop2 μ-loop2 Inv-search μ-search
+sub-last-2 c = omega (arith, c .before .before .before .before .loop2 .inv .1)
+
+add-last-2 : tie.Need-add-last-2 Inv-loop μ-loop Inv-loop2 μ-loop2 Inv-search μ-search
+add-last-2 c =
+    let l = c .before .before .before .before .loop2 .inv in
+    record { fits = fits-next _ (c .before .clear-above .result) _ _ (l .3) (l .0 .ends) (omega arith) (omega arith) }
+
+search-less : tie.Need-search-less Inv-loop μ-loop Inv-loop2 μ-loop2 Inv-search μ-search
+search-less c =
+    let l = c .before .before .before .before .loop2 .inv in
+    let k = c .before .before .before .before .before .before .before .before .loop .inv in
+    less _ _ _ (behind _ _ _ _ _ _ (l .1) (omega arith) (l .2) (k .2)) (omega (arith, l .0 .ends, l .2, k .2))
+
+search-again : tie.Need-search-again Inv-loop μ-loop Inv-loop2 μ-loop2 Inv-search μ-search
+search-again c =
+    let l = c .before .before .before .before .loop2 .inv in
+    let d = one-down _ _ (c .before .before .before .digits-down .ensures) (c .before .clear-above .ensures) (c .before .before .if3 .taken) in
+    let sum : c .before .before .before .before .loop2 .looks + (c .before .clear-above .result + 1) ≡ c .before .before .before .before .loop2 .looks + c .before .clear-above .result + 1 = omega arith in
+    let k = rest-of _ (c .before .before .before .before .loop2 .at) (c .before .clear-above .result) (l .1) (omega arith) in
+    (omega arith, rw sum (sought-next _ _ _ (k .0) (looking-more _ _ _ (l .1) (l .0) _ _ (k .1) (d .0 .clear)) (d .1) _ (next-start _ _ (omega arith))))
+
+sub-if5 : tie.Need-sub-if5 Inv-loop μ-loop Inv-loop2 μ-loop2 Inv-search μ-search
+sub-if5 c = c .before .before .loop2 .inv .1
+
+sub-looks-2 : tie.Need-sub-looks-2 Inv-loop μ-loop Inv-loop2 μ-loop2 Inv-search μ-search
+sub-looks-2 c = c .before .before .before .loop2 .inv .1
+
+add-looks-6 : tie.Need-add-looks-6 Inv-loop μ-loop Inv-loop2 μ-loop2 Inv-search μ-search
+add-looks-6 c =
+    let l = c .before .before .before .loop2 .inv in
+    omega (arith, looked (l .0))
+
+add-looks-7 : tie.Need-add-looks-7 Inv-loop μ-loop Inv-loop2 μ-loop2 Inv-search μ-search
+add-looks-7 c =
+    let l = c .before .before .before .loop2 .inv in
+    omega (arith, looked (l .0))
+
+add-looks-8 : tie.Need-add-looks-8 Inv-loop μ-loop Inv-loop2 μ-loop2 Inv-search μ-search
+add-looks-8 c = omega arith
+
+add-looks-9 : tie.Need-add-looks-9 Inv-loop μ-loop Inv-loop2 μ-loop2 Inv-search μ-search
+add-looks-9 c =
+    let l = c .before .before .before .loop2 .inv in
+    omega (arith, looked (l .0))
+
+add-at : tie.Need-add-at Inv-loop μ-loop Inv-loop2 μ-loop2 Inv-search μ-search
+add-at c = omega arith
+
+sub-at : tie.Need-sub-at Inv-loop μ-loop Inv-loop2 μ-loop2 Inv-search μ-search
+sub-at c = omega (arith, c .before .before .before .loop2 .inv .1)
+
+loop2-less : tie.Need-loop2-less Inv-loop μ-loop Inv-loop2 μ-loop2 Inv-search μ-search
+loop2-less c = omega (arith, c .before .before .before .loop2 .inv .1)
+
+loop2-again : tie.Need-loop2-again Inv-loop μ-loop Inv-loop2 μ-loop2 Inv-search μ-search
+loop2-again c =
+    let l = c .before .before .before .loop2 .inv in
+    let d = all-down _ _ (sym (c .before .before .digits-down .ensures) ∙ c .before .if3 .left) in
+    (looking-more _ _ _ (l .1) (l .0) _ _ (omega (arith, l .1)) (d .clear), omega (arith, l .1), l .2, omega (arith, l .3))
+
+returns : tie.Need-returns Inv-loop μ-loop Inv-loop2 μ-loop2 Inv-search μ-search
+returns c =
+    let l = c .before .loop .inv in
+    none _ _ _ (c .before .before .before .before .pre .0) (l .1) (omega (arith, l .0))
+
+returns-2 : tie.Need-returns-2 Inv-loop μ-loop Inv-loop2 μ-loop2 Inv-search μ-search
+returns-2 c =
+    let l = c .before .before .before .before .loop2 .inv in
+    let d = one-down _ _ (c .before .before .before .digits-down .ensures) (c .before .clear-above .ensures) (c .before .before .if3 .taken) in
+    found _ _ _ (omega arith) (looking-more _ _ _ (l .1) (l .0) _ 0 (omega arith) (λ j h. d .0 .clear j (omega arith)))
+
+returns-3 : tie.Need-returns-3 Inv-loop μ-loop Inv-loop2 μ-loop2 Inv-search μ-search
+returns-3 c =
+    let l = c .before .before .before .loop2 .inv in
+    let d = all-down _ _ (sym (c .before .before .digits-down .ensures) ∙ c .before .if3 .left) in
+    found _ _ _ (omega arith) (looking-more _ _ _ (l .1) (l .0) _ 0 (omega arith) (λ j h. d .clear j (omega arith)))
+
+pub lowest-run-spec : {M : Type 1} → statement M
+lowest-run-spec =
+    tie.close
+    (tie.spec
+    Inv-loop
+    μ-loop
+    Inv-loop2
+    μ-loop2
+    Inv-search
+    μ-search
+    sub-last
+    search-holds
+    loop-holds
+    bit-requires
+    add-looks
+    add-last
+    loop-less
+    loop-again
+    sub-start
+    sub-start-2
+    loop2-holds
+    digits-down-requires
+    clear-above-requires
+    sub-if4
+    sub-looks
+    add-looks-2
+    add-looks-3
+    add-looks-4
+    add-looks-5
+    sub-last-2
+    add-last-2
+    search-less
+    search-again
+    sub-if5
+    sub-looks-2
+    add-looks-6
+    add-looks-7
+    add-looks-8
+    add-looks-9
+    add-at
+    sub-at
+    loop2-less
+    loop2-again
+    returns
+    returns-2
+    returns-3)

@@ -1,0 +1,109 @@
+// Runs of bits in a map: the lowest run of clear ones, and a run that is set. Each function asks that its bits lie in
+// the map.
+ghost use mathlib.Core.Path.{_≡_};
+ghost use Prim.Native.Nat.{suc, _+_, _-_, _*_, _/_, _%_, _^_, _<_, _≤_};
+ghost use lib.Count.{leadingZeros};
+ghost use lib.ListN.{length};
+ghost use Rattle.bitmap.specs.Bitmap.{marked};
+ghost use Rattle.runs.specs.LowestRun.{lowestRun, isClear};
+ghost use Rattle.runs.specs.ClearDown.{digitsDown};
+ghost use Rattle.runs.specs.Filled.{withDigits};
+
+// Where a run starts, and at how many bits the search has looked.
+pub struct Found {
+    pub start: usize,
+    pub looks: usize,
+}
+
+// The binary digits of bit w's map word, up to bit w.
+fn digits_down(map: &[u64], w: usize) -> u64
+    requires { ⌜ w / 64 < length (now map) ⌝ }
+    ensures { λ r. ⌜ r ≡ digitsDown (now (map .entry)) w ⌝ }
+{
+    map[w / 64] & u64::MAX >> (63 - w % 64)
+}
+
+// How many of these digits, from bit w down, are clear above the highest set one.
+fn clear_above(digits: u64, w: usize) -> usize
+    requires { ⌜ digits < 2 ^ suc (w % 64) ⌝ }
+    ensures { λ r. ⌜ r ≡ leadingZeros 64 digits - (63 - w % 64) ⌝ }
+{
+    u64::leading_zeros(digits) as usize - (63 - w % 64)
+}
+
+// The lowest run of n adjacent clear bits among the first `bits`; it starts at `bits` where there is none. The jumping
+// search of source 000, Figure 6: a run is looked at from its last bit down, and a set bit makes the next run start
+// behind it. It jumps while the last bit is set; then it goes down a map word at a time. It looks at no more than twice
+// the bits.
+pub fn lowest_run(map: &[u64], n: usize, bits: usize) -> Found
+    requires { ⌜ (0 < n) × (n ≤ bits) × (bits ≤ 64 * length (now map)) × (bits ≤ 1024) ⌝ }
+    ensures { λ r. ⌜ (r .start ≡ lowestRun (isClear (now (map .entry))) n bits) × (r .looks ≤ 2 * bits) ⌝ }
+{
+    let mut last = n - 1;
+    let mut looks = 0;
+    let found = 'search: loop {
+        loop {
+            if bits <= last {
+                break 'search bits;
+            }
+            if bitmap::bit(map, last) == 0 {
+                break;
+            }
+            looks += 1;
+            last += n;
+        }
+        let start = last - (n - 1);
+        let mut at = last;
+        loop {
+            let digits = digits_down(map, at);
+            if digits != 0 {
+                let clear = clear_above(digits, at);
+                if at - start < clear {
+                    looks += at - start + 1;
+                    break 'search start;
+                }
+                looks += clear + 1;
+                last = at - clear + n;
+                continue 'search;
+            }
+            if at - start <= at % 64 {
+                looks += at - start + 1;
+                break 'search start;
+            }
+            looks += at % 64 + 1;
+            at -= at % 64 + 1;
+        }
+    };
+    Found {
+        start: found,
+        looks,
+    }
+}
+
+// x with its n binary digits from digit k on set.
+fn with_digits(x: u64, k: usize, n: usize) -> u64
+    requires { ⌜ (0 < n) × (k + n ≤ 64) ⌝ }
+    ensures { λ r. ⌜ r ≡ withDigits x k n ⌝ }
+{
+    x | u64::MAX >> (64 - n) << k
+}
+
+// Sets the n bits from bit w on, by one mask for each map word that holds them.
+pub fn set_bits(map: &mut [u64], w: usize, n: usize)
+    requires { ⌜ (0 < n) × (w + n ≤ 64 * length (now map)) × (w + n ≤ 32768) ⌝ }
+    ensures { λ r. ⌜ now (map .exit) ≡ marked (now (map .entry)) w n ⌝ }
+{
+    let mut first = w;
+    let mut left = n;
+    loop {
+        let digit = first % 64;
+        let room = 64 - digit;
+        if left <= room {
+            map[first / 64] = with_digits(map[first / 64], digit, left);
+            return;
+        }
+        map[first / 64] = with_digits(map[first / 64], digit, room);
+        first += room;
+        left -= room;
+    }
+}
