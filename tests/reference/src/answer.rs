@@ -13,11 +13,12 @@ pub enum Refusal {
     Kind = 4,
     /// "rights table has 0"
     Right = 5,
-    /// "area above 63 or scope not made (op 03: outside 2 to 63)"
+    /// "area above 63 or scope not made (op 03: outside 2 to 63)"; op 0c: "outside 2 to 63, or not
+    /// made"
     Area = 6,
     /// "scope already made"
     Made = 7,
-    /// "size 0 or above the unused scratch words"
+    /// "size 0 or no such run"
     Size = 8,
     /// "stack has 32 entries"
     StackFull = 9,
@@ -41,6 +42,8 @@ pub enum Refusal {
     Frame = 18,
     /// "op 0a meets a word whose bit there is 0", in the written map
     Unwritten = 19,
+    /// "the scope is open"
+    Open = 20,
     /// "there are not 36 digits or they break these rules"
     Table = 23,
     /// "any thread is started"

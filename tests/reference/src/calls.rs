@@ -1,9 +1,10 @@
-//! "Calls, checks and yields": ops 01 to 0b, the shown part and its status call, and the load of a
+//! "Calls, checks and yields": ops 01 to 0c, the shown part and its status call, and the load of a
 //! rights table.
 //!
 //! Each call runs its checks in the order of its row and changes nothing before the last one.
 
 use crate::answer::{refuse_if, Answer, Outcome, Refusal};
+use crate::blocks::BLOCK_WORDS;
 use crate::layout::{Handle, Header, NULL};
 use crate::memory::Memory;
 use crate::rights::{Kind, Right, RightsTable};
@@ -41,6 +42,8 @@ pub enum Op {
     Read { object: u64, index: u64 },
     /// op 0b, called by the starter
     StartHelper { kind: u64, helper: u64 },
+    /// op 0c
+    Remove { area: u64 },
 }
 
 impl State {
@@ -72,6 +75,7 @@ impl State {
             } => self.write(supplied, thread, object, index, word),
             Op::Read { object, index } => self.read(supplied, thread, object, index),
             Op::StartHelper { kind, helper } => self.start_helper(thread, kind, helper),
+            Op::Remove { area } => self.remove(thread, area),
         }
     }
 
@@ -135,22 +139,26 @@ impl State {
     /// Op 03: 1, 2, 6, 7, 8.
     fn make(&mut self, thread: u64, area: u64, size: u64) -> Outcome {
         self.check_thread(thread)?;
-        refuse_if(!(FIRST_SCOPE..AREAS).contains(&area), Refusal::Area)?;
+        check_scope_number(area)?;
         refuse_if(self.area(area).made, Refusal::Made)?;
-        let unused = self.lengths.scratch - self.scratch_taken;
-        refuse_if(size == 0 || size > unused, Refusal::Size)?;
-        self.place_scope(area, size);
+        let block = self.room_for(size).ok_or(Refusal::Size)?;
+        self.place_scope(area, block, size);
         Ok(0)
     }
 
-    /// "it takes the next unused scratch words, from word 0 on"
-    fn place_scope(&mut self, area: u64, size: u64) {
-        let first = self.lengths.permanent + self.scratch_taken;
+    /// The scope lies from a block on and has whole blocks; its size stays as asked, and its
+    /// generation as it was.
+    fn place_scope(&mut self, area: u64, block: u64, size: u64) {
         let scope = &mut self.areas[area as usize];
         scope.made = true;
-        scope.first = first;
+        scope.first = self.lengths.permanent + block * BLOCK_WORDS;
         scope.size = size;
-        self.scratch_taken += size;
+        self.set_used(area, true);
+    }
+
+    fn set_used(&mut self, scope: u64, used: bool) {
+        let blocks = self.blocks_of(scope);
+        self.used_blocks[blocks].fill(used);
     }
 
     /// Op 04: 1, 2, 6, 5, 9, 10, 17.
@@ -313,6 +321,25 @@ impl State {
         Ok(0)
     }
 
+    /// Op 0c: 1, 2, 6 (outside 2 to 63, or not made), 20. It "removes scope q and frees its room".
+    fn remove(&mut self, thread: u64, area: u64) -> Outcome {
+        self.check_thread(thread)?;
+        check_scope_number(area)?;
+        refuse_if(!self.area(area).made, Refusal::Area)?;
+        refuse_if(self.is_open(area), Refusal::Open)?;
+        self.set_used(area, false);
+        self.forget_scope(area);
+        Ok(0)
+    }
+
+    /// "A removed scope counts as not made"; made again, it "continues its old turns".
+    fn forget_scope(&mut self, area: u64) {
+        let scope = &mut self.areas[area as usize];
+        scope.made = false;
+        scope.first = 0;
+        scope.size = 0;
+    }
+
     /// Refusal 1: "lengths are not those of set-up".
     fn check_lengths(&self, supplied: &Memory) -> Result<(), Refusal> {
         refuse_if(supplied.lengths() != self.lengths, Refusal::Lengths)
@@ -358,6 +385,11 @@ impl State {
     fn check_right(&self, kind: Kind, area: u64, right: Right) -> Result<(), Refusal> {
         refuse_if(!self.rights.has_right(kind, area, right), Refusal::Right)
     }
+}
+
+/// Refusal 6: "outside 2 to 63".
+fn check_scope_number(area: u64) -> Result<(), Refusal> {
+    refuse_if(!(FIRST_SCOPE..AREAS).contains(&area), Refusal::Area)
 }
 
 /// The header, then "sets slots and data to 0, sets the map bit of the header and clears those of

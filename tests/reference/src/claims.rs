@@ -1,14 +1,19 @@
 //! Every claim of the third demand, tried by brute force against the book.
 
+use std::ops::Range;
+
 use crate::answer::Answer;
+use crate::blocks::BLOCK_WORDS;
 use crate::calls::{Call, Op};
 use crate::history::{History, MadeObject};
 use crate::layout::{Handle, NULL};
 use crate::loads::{Load, Loads};
 use crate::machine::Machine;
+use crate::memory::Lengths;
 use crate::random::Random;
 use crate::rights::{Kind, Right, RightsTable, DIGITS};
 use crate::state::{is_scope, AREAS, FIRST_SCOPE, HEAP, IMMORTAL};
+use crate::values::removal_status;
 
 /// Nothing, or the words of the first claim that fails.
 pub type Claim = Result<(), String>;
@@ -22,6 +27,10 @@ pub fn hold(machine: &Machine, history: &History) -> Claim {
     walk_is_rule(machine, history)?;
     counts_are_entries(machine, history)?;
     objects_lie_within(machine, history)?;
+    same_sizes(machine, history)?;
+    scopes_lie_in_blocks(machine)?;
+    scopes_are_apart(machine)?;
+    used_bits_are_exact(machine)?;
     references_are_sound(machine, history)?;
     written_bits_are_exact(machine, history)?;
     given_handles_are_exact(machine, history)
@@ -152,6 +161,77 @@ fn objects_lie_within(machine: &Machine, history: &History) -> Claim {
         claim(within, || {
             format!("object {:x} does not lie within its area", object.handle)
         })?;
+    }
+    Ok(())
+}
+
+/// Each scope's size is the book's, as asked, and so are the scopes that are made.
+fn same_sizes(machine: &Machine, history: &History) -> Claim {
+    for scope in FIRST_SCOPE..AREAS {
+        let area = machine.state.area(scope);
+        let size = history.sizes[scope as usize];
+        claim((area.made, area.size) == (size > 0, size), || {
+            let (made, given) = (area.made, area.size);
+            format!("scope {scope} has size {given}, made: {made}, the list tells {size}")
+        })?;
+    }
+    Ok(())
+}
+
+/// The made scopes, each with the numbers of its words.
+fn made_scopes(machine: &Machine) -> impl Iterator<Item = (u64, Range<u64>)> + '_ {
+    let areas = (0..).zip(&machine.state.areas);
+    let made = areas.filter(|(number, area)| is_scope(*number) && area.made);
+    made.map(|(scope, area)| (scope, area.first..area.first + area.size))
+}
+
+/// Every made scope starts with a block of scratch and ends within the S / 16 whole ones.
+fn scopes_lie_in_blocks(machine: &Machine) -> Claim {
+    let Lengths {
+        permanent, scratch, ..
+    } = machine.supplied.lengths();
+    let end = permanent + scratch / BLOCK_WORDS * BLOCK_WORDS;
+    for (scope, words) in made_scopes(machine) {
+        let start = words.start.checked_sub(permanent);
+        let aligned = start.is_some_and(|start| start % BLOCK_WORDS == 0);
+        claim(aligned && words.end <= end, || {
+            format!("scope {scope} has words {words:?}, the blocks are {permanent}..{end}")
+        })?;
+    }
+    Ok(())
+}
+
+/// No two made scopes share a word.
+fn scopes_are_apart(machine: &Machine) -> Claim {
+    let mut owners = vec![None; machine.supplied.scratch.len()];
+    for (scope, words) in made_scopes(machine) {
+        for number in words {
+            let owner = &mut owners[in_scratch(machine, number)];
+            if let Some(other) = owner.replace(scope) {
+                return Err(format!("word {number} is one of {other} and of {scope}"));
+            }
+        }
+    }
+    Ok(())
+}
+
+/// The place in scratch of a scope's word.
+fn in_scratch(machine: &Machine, number: u64) -> usize {
+    number as usize - machine.supplied.permanent.len()
+}
+
+/// A block's used bit is 1 exactly if a word of a made scope lies in it.
+fn used_bits_are_exact(machine: &Machine) -> Claim {
+    let used = &machine.state.used_blocks;
+    let mut held = vec![false; machine.supplied.scratch.len() / BLOCK_WORDS as usize];
+    for number in made_scopes(machine).flat_map(|(_, words)| words) {
+        held[in_scratch(machine, number) / BLOCK_WORDS as usize] = true;
+    }
+    claim(used.len() == held.len(), || {
+        format!("{} used bits of {} blocks", used.len(), held.len())
+    })?;
+    for (block, (used, held)) in used.iter().zip(held).enumerate() {
+        claim(*used == held, || format!("block {block} is used: {used}"))?;
     }
     Ok(())
 }
@@ -470,4 +550,16 @@ fn expected_status(
         (Some(None), Some(kind)) if !entries.iter().all(|area| may_enter(kind, area)) => 5,
         (Some(None), Some(_)) => 0,
     }
+}
+
+/// A removal that is not refused by 1 answers what the book tells.
+pub fn removal_is_exact(history: &History, call: Call, answer: Answer) -> Claim {
+    let Op::Remove { area } = call.op else {
+        return Ok(());
+    };
+    let expected = removal_status(history, call.thread, area);
+    let given = (answer.status, answer.value);
+    claim(given == (expected, 0), || {
+        format!("the removal answers {given:?}, the list tells {expected}")
+    })
 }

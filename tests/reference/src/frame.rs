@@ -48,6 +48,7 @@ pub fn operation(op: u64, p: u64, q: u64, r: u64) -> Option<Op> {
         }),
         (0x0a, _, _, 0) => Some(Op::Read { object, index }),
         (0x0b, kind, helper, 0) => Some(Op::StartHelper { kind, helper }),
+        (0x0c, 0, area, 0) => Some(Op::Remove { area }),
         _ => None,
     }
 }
@@ -92,6 +93,7 @@ pub fn fields(op: Op) -> (u64, u64, u64, u64) {
         } => (0x09, object, index, word),
         Op::Read { object, index } => (0x0a, object, index, 0),
         Op::StartHelper { kind, helper } => (0x0b, kind, helper, 0),
+        Op::Remove { area } => (0x0c, 0, area, 0),
     }
 }
 

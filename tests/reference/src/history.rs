@@ -34,6 +34,8 @@ pub struct History {
     pub rows: Vec<Option<Vec<u64>>>,
     /// "a parent for each open scope", none for the primordial scope
     pub parents: BTreeMap<u64, Option<u64>>,
+    /// The size of each made scope as asked, 0 for any other area.
+    pub sizes: Vec<u64>,
     /// "the objects made"
     pub objects: Vec<MadeObject>,
     /// The kinds that started threads were given, for the rights.
@@ -49,6 +51,7 @@ impl History {
         History {
             rows: vec![None; THREADS as usize],
             parents: BTreeMap::new(),
+            sizes: vec![0; AREAS as usize],
             objects: Vec::new(),
             kinds: vec![None; THREADS as usize],
             last_empty: vec![0; AREAS as usize],
@@ -70,6 +73,7 @@ impl History {
         match call.op {
             Op::Start { kind } => self.start(thread, kind),
             Op::End => self.end(thread),
+            Op::Make { area, size } => self.sizes[area as usize] = size,
             Op::Enter { area } => self.enter(thread, area),
             Op::Exit => self.exit(thread),
             Op::Allocate { slots, data } => self.allocate(thread, value, slots, data),
@@ -79,6 +83,7 @@ impl History {
                 word,
             } => self.write(object, index, word),
             Op::StartHelper { kind, helper } => self.start_helper(thread, helper as usize, kind),
+            Op::Remove { area } => self.sizes[area as usize] = 0,
             _ => {}
         }
     }
@@ -174,6 +179,12 @@ impl History {
     /// "Open means on some row."
     pub fn is_open(&self, scope: u64) -> bool {
         self.rows.iter().flatten().any(|row| row.contains(&scope))
+    }
+
+    /// Whether an area is a scope that was made and not removed since.
+    pub fn is_made_scope(&self, area: u64) -> bool {
+        let size = self.sizes.get(area as usize);
+        is_scope(area) && size.is_some_and(|&size| size > 0)
     }
 
     /// How many entries an area has on all rows.

@@ -103,9 +103,9 @@ fn put_wrong_byte(random: &mut Random, frame: &[u8]) -> Vec<u8> {
 fn change_op(random: &mut Random, frame: &[u8]) -> Vec<u8> {
     let op = match random.below(4) {
         0 => 0x00,
-        1 => random.between(0x0c, 0x12),
-        2 => 0x10 + random.between(0x01, 0x0b),
-        _ => random.between(0x0c, 0xff),
+        1 => random.between(0x0d, 0x12),
+        2 => 0x10 + random.between(0x01, 0x0c),
+        _ => random.between(0x0d, 0xff),
     };
     let mut line = frame.to_vec();
     line[..2].copy_from_slice(format!("{op:02x}").as_bytes());

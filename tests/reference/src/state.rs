@@ -1,6 +1,9 @@
 //! The state, its set-up, and what can be read off it.
 
+use std::ops::Range;
+
 use crate::answer::{Answer, Refusal};
+use crate::blocks::{blocks_for, lowest_run, BLOCK_WORDS};
 use crate::layout::{Handle, Header};
 use crate::memory::{Lengths, Memory};
 use crate::rights::{Kind, RightsTable};
@@ -19,7 +22,8 @@ pub const MOST_WORDS: u64 = 16_384;
 /// "last 17,592,186,044,415, which is 2^44 - 1"
 pub const LAST_GENERATION: u64 = 17_592_186_044_415;
 
-/// An area. `first` is the number of its first word, permanent words counted first.
+/// An area. `first` is the number of its first word, permanent words counted first. `size` is as
+/// asked; both are 0 for a scope that is not made.
 #[derive(Clone, Debug, Default, PartialEq, Eq)]
 pub struct Area {
     pub made: bool,
@@ -43,8 +47,8 @@ pub struct Thread {
 #[derive(Clone, Debug, PartialEq, Eq)]
 pub struct State {
     pub lengths: Lengths,
-    /// Scratch words that scopes have taken, "from word 0 on".
-    pub scratch_taken: u64,
+    /// Whether each block of scratch is a made scope's; "a shorter rest of S is not used".
+    pub used_blocks: Vec<bool>,
     pub threads: Vec<Thread>,
     pub areas: Vec<Area>,
     /// The table in force.
@@ -101,7 +105,7 @@ impl State {
         areas[IMMORTAL as usize] = State::permanent_area(heap, immortal);
         State {
             lengths,
-            scratch_taken: 0,
+            used_blocks: vec![false; (lengths.scratch / BLOCK_WORDS) as usize],
             threads: vec![Thread::default(); THREADS as usize],
             areas,
             rights: RightsTable::built_in(),
@@ -129,6 +133,21 @@ impl State {
 
     pub fn is_open(&self, scope: u64) -> bool {
         is_scope(scope) && self.area(scope).count > 0
+    }
+
+    /// The first block of "the lowest run of adjacent clear bits that holds it"; none for size 0.
+    pub fn room_for(&self, size: u64) -> Option<u64> {
+        if size == 0 {
+            return None;
+        }
+        lowest_run(&self.used_blocks, blocks_for(size))
+    }
+
+    /// The blocks of a made scope.
+    pub fn blocks_of(&self, scope: u64) -> Range<usize> {
+        let area = self.area(scope);
+        let first = (area.first - self.lengths.permanent) / BLOCK_WORDS;
+        first as usize..(first + blocks_for(area.size)) as usize
     }
 
     /// "The current area is the top entry, or the heap where the stack is empty."

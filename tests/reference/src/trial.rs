@@ -10,6 +10,7 @@ use crate::loads::Loads;
 use crate::machine::Machine;
 use crate::memory::{Lengths, Memory};
 use crate::random::Random;
+use crate::state::AREAS;
 use crate::texts::Text;
 use crate::values::Values;
 
@@ -97,11 +98,12 @@ impl Trial {
         }
     }
 
-    /// A read and a start of a helper answer by the calls before them alone.
+    /// A read, a start of a helper and a removal answer by the calls before them alone.
     fn answer_is_told(&self, call: Call, answer: Answer) -> Claim {
         let table = self.loads.table();
         claims::read_is_exact(&self.history, &table, call, answer)?;
-        claims::helper_is_exact(&self.history, &table, call, answer)
+        claims::helper_is_exact(&self.history, &table, call, answer)?;
+        claims::removal_is_exact(&self.history, call, answer)
     }
 
     /// "No op 08 in it yields 15." "a refusal and 0".
@@ -143,7 +145,7 @@ impl Trial {
     }
 
     /// The calls of the list that frames cannot make: with other lengths, and the shown part; a read
-    /// of any word; and, by a copy, a start of a helper.
+    /// of any word; and, by a copy, a start of a helper and a removal.
     fn beside(&mut self, call: Call) -> Claim {
         let before = self.machine.clone();
         self.refused_by_lengths(call)?;
@@ -153,6 +155,7 @@ impl Trial {
         claims::view_is_exact(&self.machine, &self.history, &table, thread, word)?;
         self.read_beside(thread, word)?;
         self.helper_beside(thread)?;
+        self.removal_beside(thread)?;
         if self.machine != before {
             return Err("a call beside the list changed something".into());
         }
@@ -172,7 +175,16 @@ impl Trial {
     /// A start of any helper, of no kind too.
     fn helper_beside(&mut self, thread: u64) -> Claim {
         let (kind, helper) = (self.random.below(5), self.random.below(18));
-        let op = Op::StartHelper { kind, helper };
+        self.told_by_a_copy(thread, Op::StartHelper { kind, helper })
+    }
+
+    /// A removal of any area, and of numbers that are none.
+    fn removal_beside(&mut self, thread: u64) -> Claim {
+        let area = self.random.below(AREAS + 4);
+        self.told_by_a_copy(thread, Op::Remove { area })
+    }
+
+    fn told_by_a_copy(&self, thread: u64, op: Op) -> Claim {
         let call = Call { thread, op };
         let answer = self.machine.clone().run(call);
         self.answer_is_told(call, answer)

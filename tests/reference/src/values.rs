@@ -1,5 +1,5 @@
-//! What the calls and answers so far say of a value to come: what a load, an entry or an exit must
-//! yield if it is accepted.
+//! What the calls and answers so far say of an answer to come: what a load, an entry or an exit must
+//! yield if it is accepted, and the status of a removal.
 
 use std::collections::BTreeMap;
 
@@ -30,7 +30,8 @@ impl Values {
         }
     }
 
-    /// An entry that opens a scope gives one more than its last opening, any other of it the same.
+    /// An entry that opens a scope gives one more than its last opening, removals between them or not;
+    /// any other of it the same.
     fn generation(&self, history: &History, area: u64) -> u64 {
         if !is_scope(area) {
             return 1;
@@ -58,6 +59,17 @@ impl Values {
             }
             _ => {}
         }
+    }
+}
+
+/// The status of a removal that 1 does not refuse: "2, 6 (outside 2 to 63, or not made)", then "20
+/// when the scope is open".
+pub fn removal_status(history: &History, thread: u64, area: u64) -> u64 {
+    match history.rows.get(thread as usize) {
+        None | Some(None) => 2,
+        Some(Some(_)) if !history.is_made_scope(area) => 6,
+        Some(Some(_)) if history.is_open(area) => 20,
+        Some(Some(_)) => 0,
     }
 }
 

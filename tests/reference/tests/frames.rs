@@ -76,6 +76,41 @@ fn helper() {
     assert_eq!(text(list), expected);
 }
 
+/// Scope 2 is refused by 20, which is 14 in hexadecimal, while thread 0 stands in it; then it is
+/// removed, and made again it goes on with generation 2. Op 0d does not exist.
+#[test]
+fn removal() {
+    let list = "\
+0100000000000000000200000000000000000000
+0300000000000000000000020000000000001000
+0400000000000000000000020000000000000000
+0c00000000000000000000020000000000000000
+0500000000000000000000000000000000000000
+0300000000000000000000030000000000000001
+0c00000000000000000000020000000000000000
+0c00000000000000000000020000000000000000
+0300000000000000000000030000000000000001
+0300000000000000000000020000000000000008
+0400000000000000000000020000000000000000
+0d00000000000000000000000000000000000000
+";
+    let expected = "\
+000000000000000000
+000000000000000000
+000000000000000001
+140000000000000000
+000000000000000000
+080000000000000000
+000000000000000000
+060000000000000000
+000000000000000000
+000000000000000000
+000000000000000002
+120000000000000000
+";
+    assert_eq!(text(list), expected);
+}
+
 #[test]
 fn last_line_feed_may_be_missing() {
     assert_eq!(text(EXAMPLE.trim_end()), EXAMPLE_ANSWERS);
@@ -131,7 +166,7 @@ fn digits_are_lower_case() {
 fn ops_that_do_not_exist() {
     for op in 0..=255 {
         let line = format!("{op:02x}{}", "0".repeat(38));
-        let exists = (1..=11).contains(&op);
+        let exists = (1..=12).contains(&op);
         assert_eq!(parse(line.as_bytes()).is_some(), exists, "op {op:02x}");
     }
 }
@@ -151,6 +186,7 @@ fn unused_fields() {
         (0x09, "pqr"),
         (0x0a, "pq"),
         (0x0b, "pq"),
+        (0x0c, "q"),
     ];
     for (op, used) in used {
         for (field, places) in [('p', 4..20), ('q', 20..24), ('r', 24..40)] {
@@ -180,10 +216,13 @@ fn too_large_is_a_frame() {
 0b00000000000000000200100000000000000000
 0b000000000000000002ffff0000000000000000
 0b00ffffffffffffffff00010000000000000000
+0cff000000000000000000020000000000000000
+0c00000000000000000000400000000000000000
+0c000000000000000000ffff0000000000000000
 ";
     let statuses: Vec<String> = text(list).lines().map(|l| l[..2].to_string()).collect();
     let expected = [
-        "02", "02", "04", "00", "06", "06", "08", "0c", "02", "02", "02", "04",
+        "02", "02", "04", "00", "06", "06", "08", "0c", "02", "02", "02", "04", "02", "06", "06",
     ];
     assert_eq!(statuses, expected);
 }

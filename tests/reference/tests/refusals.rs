@@ -52,6 +52,8 @@ fn every_call_gives_1(shorten: impl FnOnce(&mut Memory) -> Option<u64>) {
         },
         Op::Read { object, index: 0 },
         Op::StartHelper { kind: 0, helper: 9 },
+        Op::Remove { area: 2 },
+        Op::Remove { area: 99 },
     ];
     for op in ops {
         // Thread 99 would give 2.
@@ -107,6 +109,7 @@ fn number_2_comes_before_the_rest() {
     assert_eq!(bench.write(3, 0, 9, 1), (2, 0));
     assert_eq!(bench.read(3, 0, 9), (2, 0));
     assert_eq!(bench.start_helper(3, 0, 3), (2, 0));
+    assert_eq!(bench.remove(3, 99), (2, 0));
     assert_eq!(bench.view_answer(3, 0), (2, 0));
 }
 

@@ -1,4 +1,5 @@
-//! The twelve samples of document 01, by their numbers.
+//! The twelve samples of document 01, by their numbers; sample 6 as scopes that can be taken down have
+//! it.
 
 mod common;
 
@@ -37,8 +38,8 @@ fn samples_3_to_5_room_of_a_scope() {
 #[test]
 fn sample_6_scratch_words() {
     let mut bench = Bench::with_threads(&[REAL_TIME]);
-    assert_eq!(bench.make(0, 2, 4_090), (0, 0));
-    assert_eq!(bench.make(0, 3, 6), (0, 0));
+    assert_eq!(bench.make(0, 2, 4_080), (0, 0));
+    assert_eq!(bench.make(0, 3, 16), (0, 0));
     assert_eq!(bench.make(0, 4, 1), (8, 0));
 }
 

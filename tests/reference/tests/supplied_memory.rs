@@ -176,7 +176,9 @@ fn refused_calls_change_nothing() {
     assert_eq!(bench.write(0, object, 6, 1), (14, 0));
     assert_eq!(bench.read(0, object, 0), (19, 0));
     assert_eq!(bench.enter(0, 2), (10, 0));
-    assert_eq!(bench.make(0, 3, 63), (8, 0));
+    assert_eq!(bench.make(0, 3, 49), (8, 0));
+    assert_eq!(bench.remove(0, 2), (20, 0));
+    assert_eq!(bench.remove(0, 3), (6, 0));
     assert_eq!(bench.end(0), (11, 0));
     assert_eq!(bench.start(0, 1), (3, 0));
     assert_eq!(bench.machine, kept);

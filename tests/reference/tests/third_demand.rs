@@ -12,6 +12,7 @@ use reference::loads::{Load, Loads};
 use reference::machine::Machine;
 use reference::random::Random;
 use reference::rights::{Kind, RightsTable, BUILT_IN, DIGITS};
+use reference::state::State;
 use reference::texts::Text;
 use reference::trial::{run_list, run_steps, Trial, FRAME_SIZES};
 
@@ -66,7 +67,8 @@ fn run(machine: &mut Machine, history: &mut History, thread: u64, op: Op) -> u64
     answer.value
 }
 
-/// Thread 0 in scopes 2 and 3, thread 1 in 2; an object in each that refers to the one of 2.
+/// Thread 0 in scopes 2 and 3, of 20 words and so of two blocks each, thread 1 in 2; an object in each
+/// that refers to the one of 2.
 fn nested() -> (Machine, History, u64, u64) {
     let (mut machine, mut history) = (Machine::for_frames(), History::new());
     let mut call = |thread, op| run(&mut machine, &mut history, thread, op);
@@ -270,7 +272,7 @@ fn sees_a_view_of_other_words() {
     assert_eq!(views(&machine), [true, true]);
     machine.supplied.scratch[2] = 0;
     assert_eq!(views(&machine), [false, true]);
-    machine.supplied.scratch[22] = 7;
+    machine.supplied.scratch[34] = 7;
     assert_eq!(views(&machine), [false, false]);
 }
 
@@ -302,7 +304,7 @@ fn bits_of_a_gone_object_are_not_asked_for() {
     run(&mut machine, &mut history, 0, write(inner));
     run(&mut machine, &mut history, 0, Op::Exit);
     assert_eq!(all_claims(&machine, &history), Ok(()));
-    machine.supplied.written[32] ^= 0b111 << 20;
+    machine.supplied.written[32] ^= 0b111 << 32;
     assert_eq!(all_claims(&machine, &history), Ok(()));
 }
 
@@ -402,6 +404,142 @@ fn sees_a_helper_in_other_areas() {
         machine.state.areas[3].count -= 1;
     });
     assert_eq!(words, "scope 3 has count 1, not 2");
+}
+
+/// The words of the claim that fails after a change of the state, where scope 4 of 20 words is made
+/// beside the nested ones: its words are 2,112 to 2,131, its blocks 4 and 5.
+fn words_of_blocks(change: impl FnOnce(&mut State)) -> String {
+    words_after(|machine, history, _, _| {
+        let (area, size) = (4, 20);
+        run(machine, history, 0, Op::Make { area, size });
+        assert_eq!(all_claims(machine, history), Ok(()));
+        change(&mut machine.state);
+    })
+}
+
+/// The size of its room is not the size as asked.
+#[test]
+fn sees_another_size() {
+    let words = words_of_blocks(|state| state.areas[4].size = 32);
+    assert_eq!(words, "scope 4 has size 32, made: true, the list tells 20");
+}
+
+#[test]
+fn sees_scopes_that_nobody_made_or_removed() {
+    let words = words_of_blocks(|state| state.areas[4].made = false);
+    assert_eq!(words, "scope 4 has size 20, made: false, the list tells 20");
+    let words = words_of_blocks(|state| state.areas[9].made = true);
+    assert_eq!(words, "scope 9 has size 0, made: true, the list tells 0");
+}
+
+#[test]
+fn sees_scopes_that_share_words() {
+    let words = words_of_blocks(|state| state.areas[4].first -= 16);
+    assert_eq!(words, "word 2096 is one of 3 and of 4");
+}
+
+/// Before scratch, between two blocks, and past the last block.
+#[test]
+fn sees_a_scope_outside_the_blocks() {
+    for first in [0, 2_032, 2_111, 2_113, 6_128, 6_144] {
+        let words = words_of_blocks(|state| state.areas[4].first = first);
+        let end = first + 20;
+        let expected = format!("scope 4 has words {first}..{end}, the blocks are 2048..6144");
+        assert_eq!(words, expected);
+    }
+}
+
+/// 40 words of scratch are two blocks and a rest of 8.
+#[test]
+fn sees_a_scope_in_the_rest_of_scratch() {
+    let (mut machine, mut history) = (Machine::zeroed(0, 0, 40), History::new());
+    let mut call = |op| run(&mut machine, &mut history, 0, op);
+    call(Op::Start { kind: REAL_TIME });
+    call(Op::Make { area: 2, size: 8 });
+    assert_eq!(all_claims(&machine, &history), Ok(()));
+    machine.state.areas[2].first = 32;
+    let words = all_claims(&machine, &history).expect_err("a scope in the rest");
+    assert_eq!(words, "scope 2 has words 32..40, the blocks are 0..32");
+}
+
+#[test]
+fn sees_another_used_bit() {
+    for block in 0..6 {
+        let words = words_of_blocks(|state| state.used_blocks[block] = false);
+        assert_eq!(words, format!("block {block} is used: false"));
+    }
+    for block in [6, 255] {
+        let words = words_of_blocks(|state| state.used_blocks[block] = true);
+        assert_eq!(words, format!("block {block} is used: true"));
+    }
+    let words = words_of_blocks(|state| state.used_blocks.push(false));
+    assert_eq!(words, "257 used bits of 256 blocks");
+}
+
+/// The last exit must not free the room, and a removal must.
+#[test]
+fn sees_room_freed_too_early_or_never() {
+    let words = words_after(|machine, history, _, _| {
+        run(machine, history, 0, Op::Exit);
+        machine.state.used_blocks[2..4].fill(false);
+    });
+    assert_eq!(words, "block 2 is used: false");
+    let words = words_after(|machine, history, _, _| {
+        run(machine, history, 0, Op::Exit);
+        let kept = machine.state.used_blocks.clone();
+        run(machine, history, 0, Op::Remove { area: 3 });
+        assert_eq!(all_claims(machine, history), Ok(()));
+        machine.state.used_blocks = kept;
+    });
+    assert_eq!(words, "block 2 is used: true");
+}
+
+/// A removal that resets the generation.
+#[test]
+fn sees_a_handle_given_again_after_a_removal() {
+    let words = words_after(|machine, history, _, _| {
+        run(machine, history, 0, Op::Exit);
+        run(machine, history, 0, Op::Remove { area: 3 });
+        machine.state.areas[3].generation = 0;
+        run(machine, history, 0, Op::Make { area: 3, size: 9 });
+        run(machine, history, 0, Op::Enter { area: 3 });
+        run(machine, history, 0, Op::Allocate { slots: 1, data: 1 });
+    });
+    assert!(words.contains("given twice"), "{words}");
+}
+
+/// Every removal has one answer: 2, 6, 20 in this order, or 0. Scope 2 is open, 3 closed, 4 not made.
+#[test]
+fn sees_another_answer_to_a_removal() {
+    let (mut machine, mut history, _, _) = nested();
+    run(&mut machine, &mut history, 0, Op::Exit);
+    let rows = [
+        (2, 3, 2),
+        (16, 2, 2),
+        (u64::MAX, 64, 2),
+        (0, 0, 6),
+        (1, 1, 6),
+        (0, 4, 6),
+        (0, 64, 6),
+        (1, u64::MAX, 6),
+        (0, 2, 20),
+        (1, 2, 20),
+        (0, 3, 0),
+        (1, 3, 0),
+    ];
+    for (thread, area, expected) in rows {
+        let op = Op::Remove { area };
+        let call = Call { thread, op };
+        for status in 0..=24 {
+            let told = |value| {
+                let answer = Answer { status, value };
+                claims::removal_is_exact(&history, call, answer).is_ok()
+            };
+            assert_eq!(told(0), status == expected, "{call:?}");
+            assert!(!told(1));
+        }
+        assert_eq!(machine.clone().run(call).status, expected);
+    }
 }
 
 /// The last accepted word of a handle and an index, and none for a new object over the same words.
@@ -588,6 +726,28 @@ fn history_keeps_the_rows_of_helpers() {
     assert!(!history.parents.contains_key(&3));
 }
 
+/// The sizes as asked, of accepted calls alone.
+#[test]
+fn history_keeps_the_sizes_of_made_scopes() {
+    let (mut machine, mut history, _, _) = nested();
+    let made = |history: &History| [0, 1, 2, 3, 4, 64].map(|area| history.is_made_scope(area));
+    assert_eq!(history.sizes[..5], [0, 0, 20, 20, 0]);
+    assert_eq!(made(&history), [false, false, true, true, false, false]);
+    for op in [Op::Make { area: 4, size: 9 }, Op::Remove { area: 2 }] {
+        let refused = Answer::refused(Refusal::Thread);
+        history.step(Call { thread: 9, op }, refused);
+        assert_eq!(history.sizes[..5], [0, 0, 20, 20, 0]);
+    }
+    run(&mut machine, &mut history, 0, Op::Exit);
+    assert_eq!(history.sizes[..5], [0, 0, 20, 20, 0]);
+    run(&mut machine, &mut history, 0, Op::Remove { area: 3 });
+    assert_eq!(history.sizes[..5], [0, 0, 20, 0, 0]);
+    assert_eq!(made(&history), [false, false, true, false, false, false]);
+    let (area, size) = (3, 33);
+    run(&mut machine, &mut history, 0, Op::Make { area, size });
+    assert_eq!(history.sizes[..5], [0, 0, 20, 33, 0]);
+}
+
 /// Thread 0 in scope 2 with an object that refers to itself, the first of whose two data words was
 /// written; the words of the claim that fails at a last call, after a change of both machines of the
 /// trial.
@@ -638,6 +798,33 @@ fn trial_sees_another_answer_to_a_helper() {
     let op = Op::StartHelper { kind, helper };
     let words = words_of_last(|machine, _| machine.state.rights = none, |_| op);
     assert!(words.contains("(5, 0), the list tells 0"), "{words}");
+}
+
+/// A removal of a scope that is open by the list alone.
+#[test]
+fn trial_sees_another_answer_to_a_removal() {
+    let close = |machine: &mut Machine, _| machine.state.areas[2].count = 0;
+    let words = words_of_last(close, |_| Op::Remove { area: 2 });
+    assert!(words.contains("(0, 0), the list tells 20"), "{words}");
+}
+
+/// A scope that is made again begins with its first generation.
+#[test]
+fn trial_sees_a_generation_that_does_not_go_on() {
+    let mut trial = Trial::new(1, FRAME_SIZES);
+    let make = Op::Make { area: 2, size: 20 };
+    let enter = Op::Enter { area: 2 };
+    let remove = Op::Remove { area: 2 };
+    let start = Op::Start { kind: REAL_TIME };
+    for op in [start, make, enter, Op::Exit, remove, make] {
+        assert_eq!(trial.call(Call { thread: 0, op }), Ok(()));
+    }
+    for machine in [&mut trial.machine, &mut trial.zeroed] {
+        machine.state.areas[2].generation = 0;
+    }
+    let op = enter;
+    let words = trial.call(Call { thread: 0, op }).expect_err("it goes on");
+    assert!(words.contains("1 is yielded, the list tells 2"), "{words}");
 }
 
 #[test]

@@ -157,6 +157,7 @@ fn other_calls_leave_the_map() {
     assert_eq!(bench.end(1), (0, 0));
     assert_eq!(bench.exit(0), (0, 0));
     assert_eq!(bench.enter(0, 2), (0, 2));
+    assert_eq!(bench.remove(0, 3), (0, 0));
     assert_eq!(bench.machine.supplied.written, written);
 }
 

@@ -3,20 +3,23 @@
 //! that can come up never did.
 
 use std::collections::{BTreeMap, BTreeSet};
+use std::ops::Range;
 use std::process::exit;
 
 use reference::answer::Answer;
+use reference::blocks::{blocks_for, BLOCK_WORDS};
 use reference::calls::{Call, Op};
 use reference::frame;
 use reference::layout::{Handle, NULL};
 use reference::machine::Machine;
 use reference::rights::{Kind, Right};
-use reference::state::{is_scope, State, AREAS, HEAP, IMMORTAL, STACK_ENTRIES, THREADS};
+use reference::state::{is_scope, Area, State};
+use reference::state::{AREAS, FIRST_SCOPE, HEAP, IMMORTAL, STACK_ENTRIES, THREADS};
 use reference::{arguments, generator};
 
-/// The statuses that frames can reach, for ops 01 to 0b. Refusal 1 needs other lengths, 17 needs
+/// The statuses that frames can reach, for ops 01 to 0c. Refusal 1 needs other lengths, 17 needs
 /// 2^44 - 1 entries, and op 08 yields no 15.
-const REACHABLE: [&[u64]; 11] = [
+const REACHABLE: [&[u64]; 12] = [
     &[0, 2, 3, 4],
     &[0, 2, 11],
     &[0, 2, 6, 7, 8],
@@ -28,10 +31,11 @@ const REACHABLE: [&[u64]; 11] = [
     &[0, 2, 5, 13, 14],
     &[0, 2, 5, 13, 14, 19],
     &[0, 2, 3, 4, 5],
+    &[0, 2, 6, 20],
 ];
 
 /// The ways in which a line is no frame.
-const SPOILT: [&str; 18] = [
+const SPOILT: [&str; 19] = [
     "empty",
     "byte above 7f",
     "NUL",
@@ -49,11 +53,12 @@ const SPOILT: [&str; 18] = [
     "unused field of op 04",
     "unused field of op 08 or 0a",
     "unused field of op 0b",
+    "unused field of op 0c",
     "last line feed missing",
 ];
 
 /// What the lists are meant to bring about.
-const SITUATIONS: [&str; 54] = [
+const SITUATIONS: [&str; 79] = [
     "stack of 32 entries",
     "32 scopes on one stack",
     "10 where the stack is not empty",
@@ -66,7 +71,7 @@ const SITUATIONS: [&str; 54] = [
     "scope opened a tenth time",
     "parent passed over heap or immortal",
     "area filled to its last word",
-    "all scratch words taken",
+    "all blocks of scratch used",
     "all 62 scopes made",
     "07 within one scope",
     "07 of an ancestor's object",
@@ -107,6 +112,31 @@ const SITUATIONS: [&str; 54] = [
     "0b gives 5 for an entry under the top",
     "scope left open to helpers alone",
     "scope emptied by a thread that never entered it",
+    "scope of 16 k - 1 words made in k blocks",
+    "scope of 16 k words made in k blocks",
+    "scope of 16 k + 1 words made in k + 1 blocks",
+    "scope made in a gap that it fills",
+    "scope made above a gap that is too short",
+    "scope made again at its old place",
+    "scope made again at another place",
+    "room of a removed scope used by another scope",
+    "room of two removed scopes used by one scope",
+    "8 although enough blocks are free in all",
+    "8 for 16 k + 1 words where 16 k fit",
+    "8 where size + 15 passes 2^64",
+    "0c of a scope that was never entered",
+    "0c of a scope that was emptied",
+    "0c gives 6 for heap or immortal",
+    "0c gives 6 for a number above 63",
+    "0c gives 6 for a scope that was never made",
+    "0c gives 6 for a removed scope",
+    "0c gives 20 to a thread in the scope",
+    "0c gives 20 to a thread outside the scope",
+    "04 gives 6 for a removed scope",
+    "scope opened with its old generation and 1 after a removal",
+    "13 for a handle from before a removal, its scope open again",
+    "15 for a handle from before a removal, its scope open again",
+    "19 where an object of another scope was written",
     "several faults in one call",
 ];
 
@@ -119,10 +149,12 @@ struct Past {
     writings: BTreeMap<(u64, u64), u64>,
     /// Data words of a handle for which a write was refused.
     refused: BTreeSet<(u64, u64)>,
-    /// The numbers of words that were ever written, whatever object lay there.
-    ever_written: BTreeSet<u64>,
+    /// The numbers of words that were ever written, whatever object lay there, and its area.
+    ever_written: BTreeMap<u64, u64>,
     /// How many of its lowest entries each helper received from its starter and still has.
     received: BTreeMap<u64, usize>,
+    /// Each scope's record and blocks before it was last removed.
+    removed: BTreeMap<u64, (Area, Range<usize>)>,
 }
 
 #[derive(Default)]
@@ -174,28 +206,33 @@ impl Coverage {
             0 if op == 0x0a => self.add_read(past, (p, q), answer.value),
             0 if op == 0x05 => self.add_exit(&before, past, call.thread, answer.value),
             0 if op == 0x0b => self.add_helper(&before, past, call.thread, p),
+            0 if op == 0x03 => self.add_made(&before, &machine.state, past, q),
+            0 if op == 0x04 => self.add_entry(&before, &machine.state, past, call),
+            0 if op == 0x0c => self.add_removed(&before, q),
             0 => self.add_accepted(&before, &machine.state, call, answer.value),
             2 | 3 if op == 0x0b => self.add_helper_number(&before, call.thread, q, answer.status),
             5 if op == 0x0b => self.add_helper_right(&before, call.thread, p),
             5 => self.add_right(&before, call),
+            6 => self.add_not_made(past, call.op),
+            8 => self.add_no_room(&before, r),
             9 | 10 => self.add_entry_refused(&before, call, answer.status),
-            13 => self.add_dead(&before, &past.given, p),
+            13 => self.add_dead(&before, past, p, 13),
             14 => self.add_past_data(machine, call.op),
-            15 => self.add_dead(&before, &past.given, r),
+            15 => self.add_dead(&before, past, r, 15),
             16 => self.add_forbidden(&before, p, r),
             19 => self.add_unwritten(machine, past, (p, q)),
+            20 => self.add_open(&before, call.thread, q),
             _ => {}
         }
         past.step(machine, call.op, answer);
         if answer.is_accepted() {
             past.step_entries(&machine.state, call);
+            past.step_removal(&before, call.op);
         }
     }
 
     fn add_accepted(&mut self, before: &State, after: &State, call: Call, value: u64) {
         match call.op {
-            Op::Make { .. } => self.add_made(after),
-            Op::Enter { area } => self.add_entry(before, after, call.thread, area),
             Op::Allocate { .. } => self.add_filled(after, call.thread),
             Op::Store { object, target, .. } => self.add_store(before, call.thread, object, target),
             Op::Load { .. } => self.add_load(before, call.thread, value),
@@ -209,14 +246,120 @@ impl Coverage {
         }
     }
 
-    fn add_made(&mut self, after: &State) {
-        let full = after.scratch_taken == after.lengths.scratch;
-        self.note(full, "all scratch words taken");
+    fn add_made(&mut self, before: &State, after: &State, past: &Past, scope: u64) {
+        let full = after.used_blocks.iter().all(|&used| used);
+        self.note(full, "all blocks of scratch used");
         let all_made = after.areas.iter().all(|area| area.made);
         self.note(all_made, "all 62 scopes made");
+        self.add_blocks(before, after, scope);
+        self.add_made_again(after, past, scope);
     }
 
-    fn add_entry(&mut self, before: &State, after: &State, thread: u64, area: u64) {
+    fn add_blocks(&mut self, before: &State, after: &State, scope: u64) {
+        let size = after.area(scope).size;
+        let taken = free_blocks(before) - free_blocks(after);
+        let (k, rest) = (size / BLOCK_WORDS, size % BLOCK_WORDS);
+        self.note(
+            rest == BLOCK_WORDS - 1 && taken == k + 1,
+            "scope of 16 k - 1 words made in k blocks",
+        );
+        self.note(
+            rest == 0 && taken == k,
+            "scope of 16 k words made in k blocks",
+        );
+        self.note(
+            rest == 1 && taken == k + 1,
+            "scope of 16 k + 1 words made in k + 1 blocks",
+        );
+        let blocks = after.blocks_of(scope);
+        let used = &before.used_blocks;
+        let closed_above = used.get(blocks.end) == Some(&true);
+        let closed_below = blocks.start == 0 || used[blocks.start - 1];
+        self.note(
+            closed_below && closed_above,
+            "scope made in a gap that it fills",
+        );
+        self.note(
+            used[..blocks.start].contains(&false),
+            "scope made above a gap that is too short",
+        );
+    }
+
+    fn add_made_again(&mut self, after: &State, past: &Past, scope: u64) {
+        let first = after.area(scope).first;
+        let old = past.removed.get(&scope).map(|(area, _)| area.first);
+        self.note(
+            old.is_some_and(|old| old == first),
+            "scope made again at its old place",
+        );
+        self.note(
+            old.is_some_and(|old| old != first),
+            "scope made again at another place",
+        );
+        let blocks = after.blocks_of(scope);
+        let others = past.removed.iter().filter(|(&other, (_, freed))| {
+            other != scope && freed.start < blocks.end && blocks.start < freed.end
+        });
+        let others = others.count();
+        self.note(others > 0, "room of a removed scope used by another scope");
+        self.note(others > 1, "room of two removed scopes used by one scope");
+    }
+
+    fn add_no_room(&mut self, state: &State, size: u64) {
+        let free = free_blocks(state);
+        self.note(
+            size > 0 && blocks_for(size) <= free,
+            "8 although enough blocks are free in all",
+        );
+        self.note(
+            size % BLOCK_WORDS == 1 && state.room_for(size - 1).is_some(),
+            "8 for 16 k + 1 words where 16 k fit",
+        );
+        self.note(
+            size.checked_add(BLOCK_WORDS - 1).is_none(),
+            "8 where size + 15 passes 2^64",
+        );
+    }
+
+    fn add_removed(&mut self, before: &State, scope: u64) {
+        let entered = before.area(scope).generation > 0;
+        self.note(!entered, "0c of a scope that was never entered");
+        self.note(entered, "0c of a scope that was emptied");
+    }
+
+    /// Refusal 6 of ops 04 and 0c.
+    fn add_not_made(&mut self, past: &Past, op: Op) {
+        match op {
+            Op::Enter { area } => {
+                let removed = past.removed.contains_key(&area);
+                self.note(removed, "04 gives 6 for a removed scope");
+            }
+            Op::Remove { area } => self.add_nothing_to_remove(past, area),
+            _ => {}
+        }
+    }
+
+    fn add_nothing_to_remove(&mut self, past: &Past, area: u64) {
+        let removed = past.removed.contains_key(&area);
+        let scope = (FIRST_SCOPE..AREAS).contains(&area);
+        self.note(area < FIRST_SCOPE, "0c gives 6 for heap or immortal");
+        self.note(area >= AREAS, "0c gives 6 for a number above 63");
+        self.note(
+            scope && !removed,
+            "0c gives 6 for a scope that was never made",
+        );
+        self.note(removed, "0c gives 6 for a removed scope");
+    }
+
+    fn add_open(&mut self, state: &State, thread: u64, scope: u64) {
+        let inside = state.thread(thread).stack.contains(&scope);
+        self.note(inside, "0c gives 20 to a thread in the scope");
+        self.note(!inside, "0c gives 20 to a thread outside the scope");
+    }
+
+    fn add_entry(&mut self, before: &State, after: &State, past: &Past, call: Call) {
+        let Op::Enter { area } = call.op else { return };
+        let thread = call.thread;
         let stack = &after.thread(thread).stack;
         let scopes = stack.iter().filter(|&&area| is_scope(area)).count();
         let entered = after.area(area);
@@ -236,6 +379,11 @@ impl Coverage {
         let top_is_parent = before.thread(thread).stack.last() == entered.parent.as_ref();
         let passed_over = opened && entered.parent.is_some() && !top_is_parent;
         self.note(passed_over, "parent passed over heap or immortal");
+        let removed = past.removed.get(&area).map_or(0, |(old, _)| old.generation);
+        self.note(
+            opened && removed > 0 && entered.generation == removed + 1,
+            "scope opened with its old generation and 1 after a removal",
+        );
     }
 
     fn add_filled(&mut self, after: &State, thread: u64) {
@@ -282,7 +430,9 @@ impl Coverage {
         };
         let number = object.first_data() + index;
         let beside = past.writings.keys().any(|&(handle, _)| handle == word);
-        let stale = past.ever_written.contains(&number);
+        let writer = past.ever_written.get(&number);
+        let stale = writer.is_some();
+        let other_scope = writer.is_some_and(|&area| area != object.area);
         let other_map_word = object.first / 64 != number / 64;
         let refused = past.refused.contains(&place);
         self.note(beside, "19 beside a word that was written");
@@ -292,6 +442,10 @@ impl Coverage {
             "19 there, in another map word than the header's",
         );
         self.note(refused, "19 where a write was refused");
+        self.note(
+            other_scope,
+            "19 where an object of another scope was written",
+        );
     }
 
     fn add_exit(&mut self, before: &State, past: &Past, thread: u64, left: u64) {
@@ -394,13 +548,24 @@ impl Coverage {
         self.note(status == 9 && kind == Some(3), "9 for a no-heap thread");
     }
 
-    fn add_dead(&mut self, state: &State, given: &[u64], word: u64) {
+    fn add_dead(&mut self, state: &State, past: &Past, word: u64, status: u64) {
         let handle = Handle::unpack(word);
         let area = state.area(handle.area);
         let inside = handle.generation == area.generation && handle.offset < area.used;
         self.note(inside, "13 or 15 for a place inside an object");
-        let was_given = given.contains(&word);
+        let was_given = past.given.contains(&word);
         self.note(was_given, "13 or 15 for a dead handle");
+        let removed = past.removed.get(&handle.area);
+        let before = removed.is_some_and(|(old, _)| handle.generation <= old.generation);
+        let again = was_given && before && state.is_open(handle.area);
+        self.note(
+            again && status == 13,
+            "13 for a handle from before a removal, its scope open again",
+        );
+        self.note(
+            again && status == 15,
+            "15 for a handle from before a removal, its scope open again",
+        );
         self.note(
             !was_given && word != NULL,
             "13 or 15 for a number never given",
@@ -419,13 +584,13 @@ impl Coverage {
     }
 
     fn print_statuses(&self) {
-        let statuses: Vec<u64> = [0].into_iter().chain(2..=16).chain([19]).collect();
+        let statuses: Vec<u64> = [0].into_iter().chain(2..=16).chain([19, 20]).collect();
         print!("op");
         for status in &statuses {
             print!("{status:>8}");
         }
         println!();
-        for op in 1..=11 {
+        for op in 1..=12 {
             print!("{op:02x}");
             for status in &statuses {
                 match self.statuses.get(&(op, *status)) {
@@ -471,13 +636,19 @@ fn area_of(handle: u64) -> u64 {
     Handle::unpack(handle).area
 }
 
+fn free_blocks(state: &State) -> u64 {
+    state.used_blocks.iter().filter(|&&used| !used).count() as u64
+}
+
 impl Past {
     fn step(&mut self, machine: &Machine, op: Op, answer: Answer) {
         match op {
             Op::Allocate { .. } if answer.is_accepted() => self.given.push(answer.value),
             Op::Write { object, index, .. } if answer.is_accepted() => {
                 *self.writings.entry((object, index)).or_default() += 1;
-                self.ever_written.extend(machine.data_word(object, index));
+                let number = machine.data_word(object, index);
+                self.ever_written
+                    .extend(number.map(|number| (number, area_of(object))));
             }
             Op::Write { object, index, .. } => {
                 self.refused.insert((object, index));
@@ -505,6 +676,14 @@ impl Past {
         }
     }
 
+    /// An accepted call, with the state before it.
+    fn step_removal(&mut self, before: &State, op: Op) {
+        if let Op::Remove { area } = op {
+            let record = (before.area(area).clone(), before.blocks_of(area));
+            self.removed.insert(area, record);
+        }
+    }
+
     /// Whether a thread received a scope from its starter.
     fn was_born_in(&self, state: &State, thread: u64, scope: u64) -> bool {
         let received = self.received.get(&thread).copied().unwrap_or(0);
@@ -520,10 +699,14 @@ fn faults(machine: &Machine, call: Call) -> usize {
     let others = match call.op {
         Op::Start { kind } => vec![started, !(1..=3).contains(&kind)],
         Op::Make { area, size } => vec![
-            !(2..AREAS).contains(&area),
+            !(FIRST_SCOPE..AREAS).contains(&area),
             area < AREAS && state.area(area).made,
-            size == 0 || size > state.lengths.scratch - state.scratch_taken,
+            state.room_for(size).is_none(),
         ],
+        Op::Remove { area } => {
+            let made = is_scope(area) && area < AREAS && state.area(area).made;
+            vec![!made, made && state.is_open(area)]
+        }
         Op::Enter { area } => vec![
             area >= AREAS || !state.area(area).made,
             started && state.thread(call.thread).stack.len() == STACK_ENTRIES,
@@ -573,6 +756,7 @@ fn fault_of_digits(line: &[u8]) -> &'static str {
         b"04" => "unused field of op 04",
         b"08" | b"0a" => "unused field of op 08 or 0a",
         b"0b" => "unused field of op 0b",
+        b"0c" => "unused field of op 0c",
         _ => "op that does not exist",
     }
 }

@@ -8,7 +8,7 @@ mod threads;
 
 pub use loads::{steps, Step};
 
-use std::collections::BTreeSet;
+use std::collections::{BTreeMap, BTreeSet};
 
 use crate::answer::Answer;
 use crate::calls::{Call, Op};
@@ -63,6 +63,10 @@ pub struct Generator {
     written: Vec<(u64, u64)>,
     /// The numbers of words that were ever written, whatever object lay there.
     ever_written: BTreeSet<u64>,
+    /// The generation that each scope had when it was last removed.
+    removed: BTreeMap<u64, u64>,
+    /// A call that is to follow the last one.
+    next: Option<Call>,
 }
 
 /// A list of `count` lines. The last line feed is missing now and then.
@@ -97,6 +101,8 @@ impl Generator {
             stored: Vec::new(),
             written: Vec::new(),
             ever_written: BTreeSet::new(),
+            removed: BTreeMap::new(),
+            next: None,
         }
     }
 
@@ -140,6 +146,9 @@ impl Generator {
                     data,
                 };
                 keep(&mut self.random, &mut self.known, known);
+                if self.random.percent(self.mood.follow_ups()) {
+                    self.next = self.use_last_word(call.thread, known);
+                }
             }
             Op::Store { object, slot, .. } => {
                 keep(&mut self.random, &mut self.stored, (object, slot));
@@ -149,11 +158,18 @@ impl Generator {
                 let number = self.machine.data_word(object, index);
                 self.ever_written.extend(number);
             }
+            Op::Remove { area } => {
+                let generation = self.machine.state.area(area).generation;
+                self.removed.insert(area, generation);
+            }
             _ => {}
         }
     }
 
     fn call(&mut self) -> Call {
+        if let Some(call) = self.next.take() {
+            return call;
+        }
         if self.started().is_empty() && self.random.percent(80) {
             return self.start();
         }
@@ -168,7 +184,8 @@ impl Generator {
             7 => self.load(),
             8 => self.write(),
             9 => self.read(),
-            _ => self.start_helper(),
+            10 => self.start_helper(),
+            _ => self.remove(),
         }
     }
 

@@ -10,6 +10,10 @@ use crate::state::{is_scope, AREAS, THREADS};
 
 /// How often, in a hundred, words where an earlier object was written are used again and read.
 const STALE: u64 = 60;
+/// How often, in a hundred, an object in a scope has its bits in two map words where it may.
+const LONG: u64 = 30;
+/// How many words such an object and one over words of an earlier one have at most.
+const NEAR: u64 = 40;
 
 impl Generator {
     pub(super) fn allocate(&mut self) -> Call {
@@ -32,6 +36,11 @@ impl Generator {
             }
         }
         let scope = thread < THREADS && is_scope(self.machine.state.current_area(thread));
+        if scope && self.random.percent(LONG) {
+            if let Some(shape) = self.long_shape(thread) {
+                return shape;
+            }
+        }
         let tight = match (scope, self.mood) {
             (true, Mood::Fill) => 25,
             (true, _) => 8,
@@ -70,19 +79,40 @@ impl Generator {
     }
 
     /// An object whose last data word lies where an earlier object's was written, if there is one
-    /// near.
+    /// near; often one whose map bits lie beyond the header's map word.
     fn stale_shape(&mut self, thread: u64) -> Option<(u64, u64)> {
-        let near = self.room(thread).min(20);
+        let near = self.room(thread).min(NEAR);
         if near == 0 {
             return None;
         }
-        let state = &self.machine.state;
-        let area = state.area(state.current_area(thread));
-        let header = area.first + area.used;
-        let last = self.ever_written.range(header + 1..header + near).next()?;
+        let header = self.next_word(thread);
+        let next_map_word = (header / 64 + 1) * 64;
+        let first = match self.random.percent(50) {
+            true => next_map_word.min(header + near),
+            false => header + 1,
+        };
+        let last = self.ever_written.range(first..header + near).next()?;
         let rest = last - header;
         let slots = self.random.below(rest.min(4));
         Some((slots, rest - slots))
+    }
+
+    /// The number of the word that the next object in the thread's current area starts at.
+    fn next_word(&self, thread: u64) -> u64 {
+        let state = &self.machine.state;
+        let area = state.area(state.current_area(thread));
+        area.first + area.used
+    }
+
+    /// An object whose last word has its bits in the map word after the header's, if that is near.
+    fn long_shape(&mut self, thread: u64) -> Option<(u64, u64)> {
+        let near = self.room(thread).min(NEAR);
+        if near == 0 {
+            return None;
+        }
+        let rest = 64 - self.next_word(thread) % 64 + self.random.below(3);
+        let slots = self.random.below(4);
+        (slots < rest && rest < near).then(|| (slots, rest - slots))
     }
 
     /// Sizes whose sum would wrap, and others that never fit.
@@ -121,7 +151,7 @@ impl Generator {
     /// Any object, the later ones more often.
     fn remembered(&mut self) -> Option<Known> {
         let latest = match (self.mood, self.random.percent(50)) {
-            (Mood::Churn, _) => 12,
+            (Mood::Churn | Mood::Renew, _) => 12,
             (_, true) => 20,
             (_, false) => REMEMBERED,
         };
@@ -138,6 +168,9 @@ impl Generator {
 
     /// Null, dead, forged or any numbers.
     fn wild_handle(&mut self) -> u64 {
+        if self.mood == Mood::Renew && self.random.percent(60) {
+            return self.removed_handle();
+        }
         let known = self.random.one_of(&self.known).unwrap_or(made_up(1));
         match self.random.below(10) {
             0 => NULL,
@@ -158,6 +191,21 @@ impl Generator {
             }
         }
         1
+    }
+
+    /// A handle from before its scope was removed, where that is open again.
+    fn removed_handle(&mut self) -> u64 {
+        let state = &self.machine.state;
+        let is_old = |known: &&Known| {
+            let handle = Handle::unpack(known.handle);
+            let removed = self.removed.get(&handle.area);
+            state.is_open(handle.area) && removed.is_some_and(|&last| handle.generation <= last)
+        };
+        let old: Vec<Known> = self.known.iter().filter(is_old).copied().collect();
+        match self.random.one_of(&old) {
+            Some(known) => known.handle,
+            None => self.dead_handle(),
+        }
     }
 
     /// The place of a dead object under its scope's present generation: where a start bit or a word
@@ -242,6 +290,9 @@ impl Generator {
         if self.wild() {
             return self.wild_handle();
         }
+        if self.mood == Mood::Renew && self.random.percent(15) {
+            return self.removed_handle();
+        }
         match self.random.below(100) {
             0..=7 => NULL,
             8..=14 => self.wild_handle(),
@@ -306,6 +357,23 @@ impl Generator {
             4 => 0,
             _ => self.random.word(),
         }
+    }
+
+    /// A read of an object's last data word where an earlier object's was written, else a write.
+    pub(super) fn use_last_word(&mut self, thread: u64, known: Known) -> Option<Call> {
+        let object = known.handle;
+        let index = known.data.checked_sub(1)?;
+        let op = if self.is_stale(object, index) {
+            Op::Read { object, index }
+        } else {
+            let word = self.data_word();
+            Op::Write {
+                object,
+                index,
+                word,
+            }
+        };
+        Some(Call { thread, op })
     }
 
     pub(super) fn read(&mut self) -> Call {

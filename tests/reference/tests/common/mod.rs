@@ -139,6 +139,10 @@ impl Bench {
         self.run(starter, Op::StartHelper { kind, helper })
     }
 
+    pub fn remove(&mut self, thread: u64, area: u64) -> Pair {
+        self.run(thread, Op::Remove { area })
+    }
+
     pub fn load_rights(&mut self, text: impl AsRef<[u8]>) -> Pair {
         pair(self.machine.state.load_rights(text.as_ref()))
     }
