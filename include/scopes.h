@@ -10,11 +10,12 @@
  * no call touches memory outside what it is lent; every call ends (the contract `Answers` of each function). Over every list
  * of calls, by any threads and under any rights that are loaded, of the tables and buffers that the host then holds: a
  * thread in a scope stands in all its ancestors, whether it entered them or was started there as a helper and never called
- * enter; a scope's count is the number of its entries on all stacks; no reference outlives its object; a dead handle is
- * never accepted again; and a read of a live handle, by a thread with right U, at an index below the object's data words
- * gives the last word accepted for that handle and index, or SCOPES_UNWRITTEN if there is none since the object was made
- * (the theorem `served-claims`, crates/served). Not covered: the compiler's back end, the few lines of C below, and a host
- * that breaks these rules.
+ * enter; a scope's count is the number of its entries on all stacks; the used blocks of scratch are those of the made
+ * scopes and no others, and no two made scopes share a word; no reference outlives its object; a dead handle is never
+ * accepted again, also where its scope is removed and made again; and a read of a live handle, by a thread with right U, at
+ * an index below the object's data words gives the last word accepted for that handle and index, or SCOPES_UNWRITTEN if
+ * there is none since the object was made (the theorem `served-claims`, crates/served). Not covered: the compiler's back
+ * end, the few lines of C below, and a host that breaks these rules.
  *
  * What the caller owes. A proof about these functions rests on it, and C cannot check it:
  *  - A state comes only from a set-up and from the calls made with it since. Never write into its words or bytes, never
@@ -35,12 +36,14 @@
  *
  * Stack. No call takes more than SCOPES_CALL_STACK bytes, its arguments and its return address included, the C library's
  * memset apart (hosts/c/stack.c measures each). Without optimization a call over a handle has a frame of its own besides.
- * scopes_set_up gives its state by value: 7.5 KB more, the caller's own.
+ * scopes_set_up gives its state by value: 7.6 KB more, the caller's own.
  *
- * Time. Constant, whatever the depth and the number of threads, areas and objects, but for two calls: an accepted
- * allocation is linear in the object's words, and a start of a helper in its starter's entries, which are 32 at most. A
- * set-up writes the 7.5 KB of its tables. A list of n calls, such as the frames of target/bin/frames, is linear in n and the
- * words that it allocates.
+ * Time. Constant, whatever the depth and the number of threads, areas and objects, but for four calls. An accepted
+ * allocation is linear in the object's words, and a start of a helper in its starter's entries, which are 32 at most. A make
+ * looks at no more than two bits for each block of scratch, 2,048 at most, and passes over clear ones side by side in one
+ * word at once; an accepted make or remove writes the words with the bits of its scope's blocks, 64 in a word. A set-up
+ * writes the 7.6 KB of its tables. A list of n calls, such as the frames of target/bin/frames, is linear in n and the words
+ * that it allocates.
  *
  * Interrupts. There is no lock, no errno, no memory of the functions' own, and no floating-point number; of the C library
  * they call memset and memcpy at most. So a call may be made from an interrupt or signal handler, if the code that was
@@ -96,8 +99,8 @@ extern "C" {
 
 /* ---- Version */
 
-/* Major * 1,000,000 + minor * 1,000 + patch: 0.4.0. */
-#define SCOPES_VERSION 4000u
+/* Major * 1,000,000 + minor * 1,000 + patch: 0.5.0. */
+#define SCOPES_VERSION 5000u
 
 /* The version of the archive, to compare with that of this header. */
 SCOPES_RESULT
@@ -105,15 +108,16 @@ uint64_t scopes_version(void);
 
 /* ---- Limits */
 
-#define SCOPES_STATE_WORDS 548u       /* words of a state: 4,384 bytes */
-#define SCOPES_STATE_BYTES 3108u      /* bytes of a state, beside its words: 7,492 bytes in all */
+#define SCOPES_STATE_WORDS 563u       /* words of a state: 4,504 bytes */
+#define SCOPES_STATE_BYTES 3108u      /* bytes of a state, beside its words: 7,612 bytes in all */
 #define SCOPES_THREADS 16u            /* threads are 0 to 15 */
 #define SCOPES_AREAS 64u              /* areas are 0 to 63 */
 #define SCOPES_STACK_ENTRIES 32u      /* entries of one thread's stack */
 #define SCOPES_STORE_WORDS 16384u     /* most words of the permanent store, and of the scratch store */
+#define SCOPES_BLOCK_WORDS 16u        /* words of a block: scopes get whole blocks of the scratch store */
 #define SCOPES_RIGHTS_DIGITS 36u      /* digits of a rights table */
 #define SCOPES_CALL_STACK 256u        /* most bytes of the machine's stack that a call takes */
-#define SCOPES_LAST_GENERATION 17592186044415u /* 2^44 - 1: a scope is opened at most so often */
+#define SCOPES_LAST_GENERATION 17592186044415u /* 2^44 - 1: a scope is opened at most so often, made again or not */
 
 /* Words of the start map, and of the written map, for stores of these lengths. */
 #define SCOPES_MAP_WORDS(permanent_len, scratch_len) (((permanent_len) + (scratch_len) + 63u) / 64u)
@@ -144,9 +148,9 @@ typedef enum scopes_status {
     SCOPES_STARTED = 3,          /* thread (start_helper: the helper) started and not ended */
     SCOPES_KIND = 4,             /* kind not 1, 2 or 3 */
     SCOPES_RIGHT = 5,            /* the thread's kind (start_helper: the helper's) lacks the right, by the table in force */
-    SCOPES_AREA = 6,             /* area above 63, or scope not made (make: outside 2 to 63) */
+    SCOPES_AREA = 6,             /* area above 63, or scope not made (make: outside 2 to 63; remove: that, or not made) */
     SCOPES_MADE = 7,             /* scope already made */
-    SCOPES_SIZE = 8,             /* size 0, or above the unused scratch words */
+    SCOPES_SIZE = 8,             /* size 0, or no run of free blocks holds it */
     SCOPES_STACK_FULL = 9,       /* stack has 32 entries */
     SCOPES_PARENT = 10,          /* scope open with another parent */
     SCOPES_ENTRIES = 11,         /* exit or pop with an empty stack; end with entries */
@@ -158,6 +162,7 @@ typedef enum scopes_status {
     SCOPES_GENERATIONS_OUT = 17, /* scope not open, its generation the last one */
     SCOPES_NO_FRAME = 18,        /* a line is no frame: of the program alone, no function gives it */
     SCOPES_UNWRITTEN = 19,       /* read: nobody wrote this data word since the object was made */
+    SCOPES_OPEN = 20,            /* remove: the scope is open */
     SCOPES_TABLE = 23,           /* not 36 digits, a digit other than 0 and 1, or A without U */
     SCOPES_RUNNING = 24          /* a thread is started */
 } scopes_status;
@@ -188,6 +193,7 @@ static inline const char *scopes_status_name(uint64_t status)
         SCOPES_NAMED(SCOPES_GENERATIONS_OUT);
         SCOPES_NAMED(SCOPES_NO_FRAME);
         SCOPES_NAMED(SCOPES_UNWRITTEN);
+        SCOPES_NAMED(SCOPES_OPEN);
         SCOPES_NAMED(SCOPES_TABLE);
         SCOPES_NAMED(SCOPES_RUNNING);
         default: return "unknown status";
@@ -208,7 +214,7 @@ static inline const char *scopes_status_name(uint64_t status)
  *             where an ordinary thread enters a scope, IllegalThreadStateException
  *             E of a helper: IllegalArgumentException is nearest, as for a NoHeapRealtimeThread that is given the heap
  *    6, 7     none: an area is an object
- *    8        size 0: IllegalArgumentException; no room: OutOfMemoryError
+ *    8        size 0: IllegalArgumentException; no run of free blocks: OutOfMemoryError
  *    9, 17    none; ResourceLimitError is nearest
  *   10        ScopedCycleException
  *   11        none: run() returns once for each entry
@@ -218,6 +224,7 @@ static inline const char *scopes_status_name(uint64_t status)
  *   15        none: as 13, not live
  *   16        IllegalAssignmentError
  *   19        none: a field or an element that nobody wrote is 0
+ *   20        none: an area is an object, which the collector takes, never while a thread stands in it
  *   18, 23, 24   none
  *
  *   set-up          none: the machine's own start, after which HeapMemory.instance() and ImmortalMemory.instance() are there
@@ -227,6 +234,7 @@ static inline const char *scopes_status_name(uint64_t status)
  *                   ScopedMemory.getReferenceCount() of each scope there rises
  *   end             the return of the thread's run()
  *   make            new LTMemory(size)
+ *   remove          none: the collector takes an area that nothing refers to any more, and frees its room
  *   enter           MemoryArea.enter(logic), up to logic.run(); of a scope ScopedMemory.enter
  *   exit            the return of that run(), or of the thread's own where an entry is inherited; the value is then
  *                   ScopedMemory.getReferenceCount()
@@ -248,8 +256,8 @@ typedef struct scopes_answer {
 } scopes_answer;
 
 /* What a set-up by value gives: its status, and the state in two tables. Where the status is 1 the state is the one of
- * empty buffers. The tables may be moved elsewhere before the first call: here the words do not lie at a multiple of 64
- * bytes, as they do in a scopes_core. */
+ * empty buffers. The tables may be moved elsewhere before the first call: here they do not lie at multiples of 64 bytes, as
+ * they do in a scopes_core. */
 typedef struct scopes_new_state {
     uint64_t status;
     uint64_t words[SCOPES_STATE_WORDS];
@@ -280,10 +288,11 @@ typedef struct scopes_stack {
 
 /* The handle of a core: a state, and the buffers of its set-up with their lengths in words. It comes from
  * scopes_core_set_up and the calls since alone; it may be moved, and is never kept twice. It lies at a multiple of 64 bytes
- * (on the heap: aligned_alloc), so that no display of the state crosses a cache line and entries are fastest. */
+ * (on the heap: aligned_alloc), and so do its words and its bytes, so that no area's record and no display crosses a cache
+ * line and entries are fastest. */
 typedef struct scopes_core {
     SCOPES_ALIGNED uint64_t words[SCOPES_STATE_WORDS];
-    uint8_t bytes[SCOPES_STATE_BYTES];
+    SCOPES_ALIGNED uint8_t bytes[SCOPES_STATE_BYTES];
     uint64_t *permanent;
     size_t permanent_len;
     uint64_t *scratch;
@@ -299,26 +308,26 @@ typedef struct scopes_core {
 #define SCOPES_OFFSET_IS(type, field, offset) SCOPES_FACT(type##_has_its_##field, offsetof(type, field) == (offset))
 SCOPES_SIZE_IS(scopes_answer, 16);
 SCOPES_OFFSET_IS(scopes_answer, value, 8);
-SCOPES_SIZE_IS(scopes_new_state, 7504);
+SCOPES_SIZE_IS(scopes_new_state, 7624);
 SCOPES_OFFSET_IS(scopes_new_state, words, 8);
-SCOPES_OFFSET_IS(scopes_new_state, bytes, 4392);
+SCOPES_OFFSET_IS(scopes_new_state, bytes, 4512);
 SCOPES_SIZE_IS(scopes_view, 32);
 SCOPES_OFFSET_IS(scopes_view, store, 8);
 SCOPES_OFFSET_IS(scopes_view, from, 16);
 SCOPES_OFFSET_IS(scopes_view, len, 24);
 SCOPES_SIZE_IS(scopes_stack, 40);
 SCOPES_OFFSET_IS(scopes_stack, entries, 8);
-SCOPES_SIZE_IS(scopes_core, 7616);
+SCOPES_SIZE_IS(scopes_core, 7744);
 SCOPES_OFFSET_IS(scopes_core, words, 0);
-SCOPES_OFFSET_IS(scopes_core, bytes, 4384);
-SCOPES_OFFSET_IS(scopes_core, permanent, 7496);
-SCOPES_OFFSET_IS(scopes_core, permanent_len, 7504);
-SCOPES_OFFSET_IS(scopes_core, scratch, 7512);
-SCOPES_OFFSET_IS(scopes_core, scratch_len, 7520);
-SCOPES_OFFSET_IS(scopes_core, map, 7528);
-SCOPES_OFFSET_IS(scopes_core, map_len, 7536);
-SCOPES_OFFSET_IS(scopes_core, written, 7544);
-SCOPES_OFFSET_IS(scopes_core, written_len, 7552);
+SCOPES_OFFSET_IS(scopes_core, bytes, 4544);
+SCOPES_OFFSET_IS(scopes_core, permanent, 7656);
+SCOPES_OFFSET_IS(scopes_core, permanent_len, 7664);
+SCOPES_OFFSET_IS(scopes_core, scratch, 7672);
+SCOPES_OFFSET_IS(scopes_core, scratch_len, 7680);
+SCOPES_OFFSET_IS(scopes_core, map, 7688);
+SCOPES_OFFSET_IS(scopes_core, map_len, 7696);
+SCOPES_OFFSET_IS(scopes_core, written, 7704);
+SCOPES_OFFSET_IS(scopes_core, written_len, 7712);
 
 /* ---- Set-up: a first state for a heap and an immortal memory of these sizes in words, with the built-in rights table.
  * Refused by 1 unless heap + immortal is permanent_len, no store is longer than 16,384 words, and each map has
@@ -326,10 +335,14 @@ SCOPES_OFFSET_IS(scopes_core, written_len, 7552);
  *
  * Both maps have a bit for each word of the stores, the permanent store's words first: word w has bit w mod 64 of map word
  * w / 64. In the start map a 1 says that an object begins there, in the written map that the data word was written since its
- * object was made. An allocation puts both in order for the words of its object, so they too may hold anything at first. */
+ * object was made. An allocation puts both in order for the words of its object, so they too may hold anything at first.
+ *
+ * The scratch store has scratch_len / SCOPES_BLOCK_WORDS whole blocks, 1,024 at most, which make hands out and remove takes
+ * back; a shorter rest behind them is not used. */
 
 /* Writes the state into the host's own words and bytes, whatever they hold, and gives the status. Where the words lie at a
- * multiple of 64 bytes and the bytes right behind them, no display crosses a cache line, and entries are fastest. */
+ * multiple of 64 bytes and the bytes at a multiple of 32 bytes, no area's record and no display crosses a cache line, and
+ * entries are fastest. */
 SCOPES_RESULT SCOPES_NONNULL(1, 2)
 uint64_t scopes_set_up_in_place(
     uint64_t words[SCOPES_STATE_WORDS], uint8_t bytes[SCOPES_STATE_BYTES],
@@ -384,7 +397,9 @@ scopes_answer scopes_end(
     const uint64_t *written, size_t written_len,
     uint64_t thread);
 
-/* Makes a scope of a size in words, from the next unused scratch words. Refusals 1, 2, 6, 7, 8. Value 0. */
+/* Makes a scope of a size in words. It gets the lowest run of adjacent free blocks that holds them, and keeps it, open or
+ * not, until it is removed; its objects get no more than the size that was asked for. A scope that was removed may lie
+ * elsewhere now, and its generations go on, so that its old handles stay dead. Refusals 1, 2, 6, 7, 8. Value 0. */
 SCOPES_RESULT SCOPES_NONNULL(1, 2)
 scopes_answer scopes_make(
     uint64_t words[SCOPES_STATE_WORDS], const uint8_t bytes[SCOPES_STATE_BYTES],
@@ -393,6 +408,17 @@ scopes_answer scopes_make(
     const uint64_t *map, size_t map_len,
     const uint64_t *written, size_t written_len,
     uint64_t thread, uint64_t area, uint64_t size);
+
+/* Removes a scope that is not open: it counts as not made from then on, and its blocks are free for other scopes. No lent
+ * word changes. Refusals 1, 2, 6, 20. Value 0. */
+SCOPES_RESULT SCOPES_NONNULL(1, 2)
+scopes_answer scopes_remove(
+    uint64_t words[SCOPES_STATE_WORDS], const uint8_t bytes[SCOPES_STATE_BYTES],
+    const uint64_t *permanent, size_t permanent_len,
+    const uint64_t *scratch, size_t scratch_len,
+    const uint64_t *map, size_t map_len,
+    const uint64_t *written, size_t written_len,
+    uint64_t thread, uint64_t area);
 
 /* Enters an area. Refusals 1, 2, 6, 5, 9, 10, 17. The value is the area's generation. */
 SCOPES_RESULT SCOPES_NONNULL(1, 2)
@@ -404,8 +430,8 @@ scopes_answer scopes_enter(
     const uint64_t *written, size_t written_len,
     uint64_t thread, uint64_t area);
 
-/* Leaves the current area; a scope that its last thread leaves is emptied. Refusals 1, 2, 11. The value is the count of
- * entries left of a scope, else 0. */
+/* Leaves the current area; a scope that its last thread leaves is emptied, and keeps its blocks. Refusals 1, 2, 11. The
+ * value is the count of entries left of a scope, else 0. */
 SCOPES_RESULT SCOPES_NONNULL(1, 2)
 scopes_answer scopes_exit(
     uint64_t words[SCOPES_STATE_WORDS], const uint8_t bytes[SCOPES_STATE_BYTES],
@@ -479,7 +505,8 @@ scopes_answer scopes_view_status(
     uint64_t thread, uint64_t object);
 
 /* Where they lie, with the same status; a refusal gives store, from and len 0. The part is the object's until the next
- * call that empties its scope. Read it; writing it is scopes_write's. */
+ * call that empties its scope; an open scope is not removed, so that its words stay. Read it; writing it is
+ * scopes_write's. */
 SCOPES_RESULT SCOPES_NONNULL(1, 2)
 scopes_view scopes_view_place(
     const uint64_t words[SCOPES_STATE_WORDS], const uint8_t bytes[SCOPES_STATE_BYTES],
@@ -578,6 +605,12 @@ SCOPES_RESULT SCOPES_NONNULL(1)
 static inline scopes_answer scopes_core_make(scopes_core *core, uint64_t thread, uint64_t area, uint64_t size)
 {
     return scopes_make(SCOPES_PARTS(core), thread, area, size);
+}
+
+SCOPES_RESULT SCOPES_NONNULL(1)
+static inline scopes_answer scopes_core_remove(scopes_core *core, uint64_t thread, uint64_t area)
+{
+    return scopes_remove(SCOPES_PARTS(core), thread, area);
 }
 
 SCOPES_RESULT SCOPES_NONNULL(1)

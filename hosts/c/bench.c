@@ -1,6 +1,7 @@
 /* A measuring bench in C: calls by its threads, in orders that broke earlier versions of the core, with what the core
  * answers. An assistant leaves a parent while its child is open; a plotter keeps a reference into a sample that is emptied; a
- * driver starts its plotter inside a sample, and leaves before it. At the end the bench loads a rights table of its own. */
+ * driver starts its plotter inside a sample, and leaves before it; a laboratory takes samples down, and makes others in their
+ * room. At the end the bench loads a rights table of its own. */
 #include <inttypes.h>
 #include <stdio.h>
 #include <string.h>
@@ -12,7 +13,7 @@ enum { MAP_WORDS = SCOPES_MAP_WORDS(PERMANENT_WORDS, SCRATCH_WORDS) };
 
 /* The threads of this bench and its scopes. */
 enum { METER = 0, ASSISTANT = 1, PLOTTER = 2, CLERK = 3, DRIVER = 4 };
-enum { RUN = 2, SAMPLE = 3 };
+enum { RUN = 2, SAMPLE = 3, OAK = 4, PINE = 5, LARCH = 6, YEW = 7 };
 
 /* The memory that this host lends, and its core. */
 static uint64_t permanent[PERMANENT_WORDS];
@@ -158,6 +159,62 @@ static void plotter_born_in_sample(void)
     show("plotter ends", scopes_core_end(&core, PLOTTER));
 }
 
+/* Where an object's data lie: the first word of them in its store. */
+static void show_place(const char *call, scopes_view place)
+{
+    show_status(call, place.status);
+    printf("  from word %" PRIu64 "\n", place.from);
+}
+
+/* The scratch store has 16 blocks: run and sample have two of them each, the samples of three trees four each. An emptied
+ * sample keeps its blocks, and an open one is not removed. Yields the handle of the oak's rings, which are gone then. */
+static uint64_t scratch_runs_out(void)
+{
+    title("A laboratory's scratch runs out");
+    show("meter starts, real-time", scopes_core_start(&core, METER, SCOPES_REAL_TIME));
+    show("meter makes the scope oak, 64 words", scopes_core_make(&core, METER, OAK, 64));
+    show("meter makes the scope pine, 49 words", scopes_core_make(&core, METER, PINE, 49));
+    show("meter makes the scope larch, 64 words", scopes_core_make(&core, METER, LARCH, 64));
+    show("meter makes the scope yew, 1 word", scopes_core_make(&core, METER, YEW, 1));
+    show("meter enters oak", scopes_core_enter(&core, METER, OAK));
+    uint64_t rings = show("meter allocates rings in oak, 1 data word", scopes_core_allocate(&core, METER, 0, 1));
+    show("meter writes 11 into the rings", scopes_core_write(&core, METER, rings, 0, 11));
+    show_place("meter asks where the rings lie", scopes_core_view_place(&core, METER, rings));
+    show("meter removes oak, where it stands", scopes_core_remove(&core, METER, OAK));
+    show("meter reads the rings", scopes_core_read(&core, METER, rings, 0));
+    show("meter leaves oak, the last one", scopes_core_exit(&core, METER));
+    show("meter makes the scope yew, 1 word", scopes_core_make(&core, METER, YEW, 1));
+    return rings;
+}
+
+/* Oak and larch are taken down. The yew gets the room of the oak; the oak, made again, that of the larch, since what the yew
+ * left is too short. */
+static void samples_change(uint64_t rings)
+{
+    title("A laboratory changes its samples");
+    show("meter removes oak", scopes_core_remove(&core, METER, OAK));
+    show("meter removes oak again", scopes_core_remove(&core, METER, OAK));
+    show("meter enters oak", scopes_core_enter(&core, METER, OAK));
+    show("meter removes larch", scopes_core_remove(&core, METER, LARCH));
+    show("meter makes yew, 65 words: 8 free blocks, no 5 side by side", scopes_core_make(&core, METER, YEW, 65));
+    show("meter makes yew, 48 words", scopes_core_make(&core, METER, YEW, 48));
+    show("meter enters yew", scopes_core_enter(&core, METER, YEW));
+    uint64_t bark = show("meter allocates bark in yew, 1 data word", scopes_core_allocate(&core, METER, 0, 1));
+    show_place("meter asks where the bark lies", scopes_core_view_place(&core, METER, bark));
+    show("meter reads the rings of oak", scopes_core_read(&core, METER, rings, 0));
+    show("meter makes oak again, 64 words", scopes_core_make(&core, METER, OAK, 64));
+    show("meter enters oak under yew", scopes_core_enter(&core, METER, OAK));
+    uint64_t again = show("meter allocates rings in oak, 1 slot, 1 data word", scopes_core_allocate(&core, METER, 1, 1));
+    show_place("meter asks where the new rings lie", scopes_core_view_place(&core, METER, again));
+    show("meter reads the old rings", scopes_core_read(&core, METER, rings, 0));
+    show("meter stores the old rings in the new ones", scopes_core_store(&core, METER, again, 0, rings));
+    show("meter stores bark in the new rings", scopes_core_store(&core, METER, again, 0, bark));
+    show("meter removes yew, which it entered before oak", scopes_core_remove(&core, METER, YEW));
+    show("meter leaves oak", scopes_core_exit(&core, METER));
+    show("meter leaves yew", scopes_core_exit(&core, METER));
+    show("meter ends", scopes_core_end(&core, METER));
+}
+
 /* A stack that the scheduler holds by itself, and a call that is lent too little. */
 static void beside_the_calls(void)
 {
@@ -208,6 +265,7 @@ int main(void)
     reference_into_emptied_sample();
     another_nesting();
     plotter_born_in_sample();
+    samples_change(scratch_runs_out());
     beside_the_calls();
     rights_of_its_own();
     return 0;

@@ -66,6 +66,8 @@ static void every_call(void)
     CHECK(is_answer(scopes_core_exit(&core, HELPER), 0));
     check_refused_view(inner);
     CHECK(is_answer(scopes_core_end(&core, HELPER), 0));
+    CHECK(is_answer(scopes_core_remove(&core, THREAD, SCOPE), 0));
+    CHECK_ANSWER(scopes_core_enter(&core, THREAD, SCOPE), SCOPES_AREA);
     CHECK(is_answer(scopes_core_end(&core, THREAD), 0));
 }
 
@@ -98,6 +100,37 @@ static void unwritten_words(void)
     check_unwritten();
 }
 
+/* Makes a scope, enters it and allocates an object of one data word, which begins a block then. Yields its handle. */
+static uint64_t check_made_at(uint64_t scope, uint64_t size, uint64_t generation, size_t block)
+{
+    uint64_t object;
+    CHECK(is_answer(scopes_core_make(&core, THREAD, scope, size), 0));
+    CHECK(is_answer(scopes_core_enter(&core, THREAD, scope), generation));
+    object = scopes_core_allocate(&core, THREAD, 0, 1).value;
+    check_view(object, scratch + block * SCOPES_BLOCK_WORDS + 1, 1);
+    return object;
+}
+
+/* A scope gets the lowest run of free blocks, whole ones; what is removed is free again, and its handles stay dead. */
+static void removed_scopes(void)
+{
+    uint64_t old;
+    CHECK_STATUS(set_up(HEAP, MAP), SCOPES_OK);
+    CHECK(is_answer(scopes_core_start(&core, THREAD, SCOPES_REAL_TIME), 0));
+    old = check_made_at(SCOPE, SCOPES_BLOCK_WORDS, 1, 0);
+    check_made_at(SCOPE + 1, SCOPES_BLOCK_WORDS + 1, 1, 1);
+    CHECK_ANSWER(scopes_core_remove(&core, THREAD, SCOPE), SCOPES_OPEN);
+    CHECK(is_answer(scopes_core_exit(&core, THREAD), 0));
+    CHECK(is_answer(scopes_core_exit(&core, THREAD), 0));
+    CHECK_ANSWER(scopes_core_make(&core, THREAD, SCOPE, 1), SCOPES_MADE);
+    CHECK(is_answer(scopes_core_remove(&core, THREAD, SCOPE), 0));
+    CHECK_ANSWER(scopes_core_make(&core, THREAD, SCOPE + 2, SCOPES_BLOCK_WORDS + 1), SCOPES_SIZE);
+    check_made_at(SCOPE + 2, 2, 1, 0);
+    CHECK_ANSWER(scopes_core_allocate(&core, THREAD, 0, 0), SCOPES_ROOM);
+    check_made_at(SCOPE, SCOPES_BLOCK_WORDS, 2, 3);
+    check_refused_view(old);
+}
+
 /* Both set-ups give the same state, also where they are refused. */
 static void check_same_set_up(uint64_t heap, size_t written_len, uint64_t expected)
 {
@@ -117,6 +150,7 @@ static void null_buffers(void)
     CHECK(is_answer(scopes_core_load_rights(&core, digits, SCOPES_RIGHTS_DIGITS), 0));
     CHECK(is_answer(scopes_core_start(&core, THREAD, SCOPES_REAL_TIME), 0));
     CHECK_ANSWER(scopes_core_make(&core, THREAD, SCOPE, 1), SCOPES_SIZE);
+    CHECK_ANSWER(scopes_core_remove(&core, THREAD, SCOPE), SCOPES_AREA);
     CHECK(is_answer(scopes_core_enter(&core, THREAD, SCOPES_IMMORTAL), 1));
     CHECK_ANSWER(scopes_core_start_helper(&core, THREAD, SCOPES_ORDINARY, HELPER), SCOPES_RIGHT);
     CHECK(is_answer(scopes_core_start_helper(&core, THREAD, SCOPES_NO_HEAP, HELPER), 0));
@@ -172,6 +206,7 @@ int main(void)
 {
     every_call();
     unwritten_words();
+    removed_scopes();
     check_same_set_up(HEAP, MAP, SCOPES_OK);
     check_same_set_up(HEAP + 1, MAP, SCOPES_LENGTHS);
     check_same_set_up(HEAP, MAP - 1, SCOPES_LENGTHS);

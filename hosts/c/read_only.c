@@ -6,12 +6,14 @@
 
 #include "check.h"
 
-enum { HEAP = 32, IMMORTAL = 32, PERMANENT = HEAP + IMMORTAL, SCRATCH = 64, MAP = SCOPES_MAP_WORDS(PERMANENT, SCRATCH) };
+enum { HEAP = 32, IMMORTAL = 32, PERMANENT = HEAP + IMMORTAL, SCRATCH = 96, MAP = SCOPES_MAP_WORDS(PERMANENT, SCRATCH) };
 
 /* Threads by their kind, one in a scope under another above a heap entry, one whose stack is full of heap entries above a
  * scope, and one that is not started. */
 enum { REAL_TIME, ORDINARY, NO_HEAP, NESTED, FULL, IDLE };
-enum { OUTER = 2, INNER = 3, UNMADE = 4 };
+
+/* Two open scopes, one that is not, one that was never made, and one that was removed. */
+enum { OUTER = 2, INNER = 3, CLOSED = 4, UNMADE = 5, REMOVED = 6 };
 
 /* All memory of a core in one piece, which is mapped. */
 typedef struct memory {
@@ -64,10 +66,18 @@ static void start_threads(void)
     CHECK_ANSWER(scopes_core_start(core, FULL, SCOPES_REAL_TIME), SCOPES_OK);
 }
 
-static void make_objects(void)
+/* Of the six blocks of scratch the second and the last two are free. */
+static void make_scopes(void)
 {
     CHECK_ANSWER(scopes_core_make(core, NESTED, OUTER, 16), SCOPES_OK);
+    CHECK_ANSWER(scopes_core_make(core, NESTED, REMOVED, 16), SCOPES_OK);
     CHECK_ANSWER(scopes_core_make(core, NESTED, INNER, 16), SCOPES_OK);
+    CHECK_ANSWER(scopes_core_make(core, NESTED, CLOSED, 16), SCOPES_OK);
+    CHECK_ANSWER(scopes_core_remove(core, NESTED, REMOVED), SCOPES_OK);
+}
+
+static void make_objects(void)
+{
     CHECK_ANSWER(scopes_core_enter(core, NESTED, SCOPES_HEAP), SCOPES_OK);
     CHECK_ANSWER(scopes_core_enter(core, NESTED, OUTER), SCOPES_OK);
     dead = allocate(NESTED);
@@ -116,6 +126,7 @@ static void begin(void)
 {
     CHECK_STATUS(set_up(core, HEAP), SCOPES_OK);
     start_threads();
+    make_scopes();
     make_objects();
     fill_stack();
     fill_slots();
@@ -145,14 +156,31 @@ static void refused_helpers(void)
     CHECK_ANSWER(scopes_core_start_helper(core, FULL, SCOPES_NO_HEAP, IDLE), SCOPES_RIGHT);
 }
 
-static void refused_areas(void)
+/* Three blocks are free, but no more than two of them side by side. */
+static void refused_scopes(void)
 {
     CHECK_ANSWER(scopes_core_make(core, IDLE, UNMADE, 1), SCOPES_THREAD);
     CHECK_ANSWER(scopes_core_make(core, NESTED, SCOPES_HEAP, 1), SCOPES_AREA);
+    CHECK_ANSWER(scopes_core_make(core, NESTED, SCOPES_AREAS, 1), SCOPES_AREA);
     CHECK_ANSWER(scopes_core_make(core, NESTED, INNER, 1), SCOPES_MADE);
-    CHECK_ANSWER(scopes_core_make(core, NESTED, UNMADE, SCRATCH), SCOPES_SIZE);
+    CHECK_ANSWER(scopes_core_make(core, NESTED, CLOSED, 1), SCOPES_MADE);
+    CHECK_ANSWER(scopes_core_make(core, NESTED, UNMADE, 0), SCOPES_SIZE);
+    CHECK_ANSWER(scopes_core_make(core, NESTED, REMOVED, 2 * SCOPES_BLOCK_WORDS + 1), SCOPES_SIZE);
+    CHECK_ANSWER(scopes_core_make(core, NESTED, UNMADE, UINT64_MAX), SCOPES_SIZE);
+    CHECK_ANSWER(scopes_core_remove(core, IDLE, CLOSED), SCOPES_THREAD);
+    CHECK_ANSWER(scopes_core_remove(core, NESTED, SCOPES_IMMORTAL), SCOPES_AREA);
+    CHECK_ANSWER(scopes_core_remove(core, NESTED, SCOPES_AREAS), SCOPES_AREA);
+    CHECK_ANSWER(scopes_core_remove(core, NESTED, UNMADE), SCOPES_AREA);
+    CHECK_ANSWER(scopes_core_remove(core, NESTED, REMOVED), SCOPES_AREA);
+    CHECK_ANSWER(scopes_core_remove(core, NESTED, OUTER), SCOPES_OPEN);
+    CHECK_ANSWER(scopes_core_remove(core, ORDINARY, INNER), SCOPES_OPEN);
+}
+
+static void refused_areas(void)
+{
     CHECK_ANSWER(scopes_core_enter(core, IDLE, OUTER), SCOPES_THREAD);
     CHECK_ANSWER(scopes_core_enter(core, NESTED, UNMADE), SCOPES_AREA);
+    CHECK_ANSWER(scopes_core_enter(core, NESTED, REMOVED), SCOPES_AREA);
     CHECK_ANSWER(scopes_core_enter(core, ORDINARY, OUTER), SCOPES_RIGHT);
     CHECK_ANSWER(scopes_core_enter(core, NO_HEAP, SCOPES_HEAP), SCOPES_RIGHT);
     CHECK_ANSWER(scopes_core_enter(core, FULL, SCOPES_IMMORTAL), SCOPES_STACK_FULL);
@@ -216,6 +244,7 @@ static void refused_lengths(void)
     CHECK_ANSWER(scopes_core_start_helper(core, NESTED, SCOPES_REAL_TIME, IDLE), SCOPES_LENGTHS);
     CHECK_ANSWER(scopes_core_end(core, ORDINARY), SCOPES_LENGTHS);
     CHECK_ANSWER(scopes_core_make(core, NESTED, UNMADE, 1), SCOPES_LENGTHS);
+    CHECK_ANSWER(scopes_core_remove(core, NESTED, CLOSED), SCOPES_LENGTHS);
     CHECK_ANSWER(scopes_core_enter(core, NESTED, SCOPES_HEAP), SCOPES_LENGTHS);
     CHECK_ANSWER(scopes_core_exit(core, NESTED), SCOPES_LENGTHS);
     CHECK_ANSWER(scopes_core_allocate(core, NESTED, 0, 1), SCOPES_LENGTHS);
@@ -269,6 +298,7 @@ int main(void)
     protect(PROT_READ);
     refused_threads();
     refused_helpers();
+    refused_scopes();
     refused_areas();
     refused_references();
     refused_data();

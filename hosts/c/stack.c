@@ -7,14 +7,15 @@
 
 #include "check.h"
 
-enum { PERMANENT = 64, SCRATCH = 256, MAP = SCOPES_MAP_WORDS(PERMANENT, SCRATCH) };
+/* The scratch store has 65 blocks, whose used bits cross a word of the state. */
+enum { PERMANENT = 64, SCRATCH = 65 * SCOPES_BLOCK_WORDS, MAP = SCOPES_MAP_WORDS(PERMANENT, SCRATCH) };
 enum { STACK_BYTES = 65536, PAINT = 0xa5 };
 
 static uint64_t permanent[PERMANENT], scratch[SCRATCH], map[MAP], written[MAP];
 static scopes_core core;
 static scopes_stack record;
 
-/* An object with a slot and 40 data words, which cross a map word. */
+/* An object with a slot and 80 data words, whose bits cross a map word. */
 static uint64_t object;
 
 static uint8_t stack[STACK_BYTES];
@@ -31,22 +32,23 @@ static void set_up_in_place(void)
 }
 static void start(void) { status = scopes_core_start(&core, 0, SCOPES_REAL_TIME).status; }
 static void start_helper(void) { status = scopes_core_start_helper(&core, 0, SCOPES_REAL_TIME, 1).status; }
-static void make(void) { status = scopes_core_make(&core, 0, 2, 128).status; }
+static void make(void) { status = scopes_core_make(&core, 0, 2, SCRATCH).status; }
 static void enter(void) { status = scopes_core_enter(&core, 0, 2).status; }
 static void allocate(void)
 {
-    scopes_answer answer = scopes_core_allocate(&core, 0, 1, 40);
+    scopes_answer answer = scopes_core_allocate(&core, 0, 1, 80);
     object = answer.value;
     status = answer.status;
 }
 static void store(void) { status = scopes_core_store(&core, 0, object, 0, object).status; }
 static void load(void) { status = scopes_core_load(&core, 0, object, 0).status; }
-static void write_word(void) { status = scopes_core_write(&core, 0, object, 39, 7).status; }
-static void read_word(void) { status = scopes_core_read(&core, 0, object, 39).status; }
+static void write_word(void) { status = scopes_core_write(&core, 0, object, 79, 7).status; }
+static void read_word(void) { status = scopes_core_read(&core, 0, object, 79).status; }
 static void view_status(void) { status = scopes_core_view_status(&core, 0, object).status; }
 static void view_place(void) { status = scopes_core_view_place(&core, 0, object).status; }
 static void leave(void) { status = scopes_core_exit(&core, 0).status; }
 static void leave_last(void) { status = scopes_core_exit(&core, 1).status; }
+static void remove_scope(void) { status = scopes_core_remove(&core, 0, 2).status; }
 static void end(void) { status = scopes_core_end(&core, 0).status; }
 static void load_rights(void)
 {
@@ -67,8 +69,9 @@ static const struct { const char *name; void (*call)(void); } calls[] = {
     {"write", write_word},          {"read", read_word},
     {"view_status", view_status},   {"view_place", view_place},
     {"exit", leave},                {"exit, the last", leave_last},
-    {"end", end},                   {"stack_empty", stack_empty},
-    {"stack_push", stack_push},     {"stack_pop", stack_pop},
+    {"remove", remove_scope},       {"end", end},
+    {"stack_empty", stack_empty},   {"stack_push", stack_push},
+    {"stack_pop", stack_pop},
 };
 
 /* The function to be measured, and the painted bytes that it leaves, counted before anything else runs on that stack. */

@@ -16,7 +16,8 @@ impl<'m> Core<'m> {
     /// A first state over a permanent store (heap, then immortal memory, of these sizes in words), a
     /// scratch store, a start map and a written map, with the built-in rights table (see [`Kind`]). A
     /// map has a bit for each word of the stores: that an object begins there, or that the data word
-    /// was written since its object was made. The words may hold anything, and stay as they are.
+    /// was written since its object was made. The words may hold anything, and stay as they are. Scopes
+    /// get whole blocks of 16 words from the scratch store; a shorter rest behind them is not used.
     /// Refused by [`Refusal::Lengths`] unless heap + immortal is the permanent store's length, no
     /// store is longer than 16,384 words, and each map has [`map_words`] words.
     pub fn set_up(
@@ -37,7 +38,7 @@ impl<'m> Core<'m> {
         check(status).map(|()| core)
     }
 
-    /// The same in a place of the host's own, where the core stays: its 7.6 KB do not cross the stack.
+    /// The same in a place of the host's own, where the core stays: its 7.7 KB do not cross the stack.
     ///
     /// ```
     /// # use core::mem::MaybeUninit;
@@ -106,8 +107,8 @@ impl<'m> Core<'m> {
     ///
     /// ```
     /// # use scopes::{map_words, Area, Core, Kind, Refusal, Thread};
-    /// # let (mut permanent, mut scratch) = ([0; 0], [0; 8]);
-    /// # let (mut map, mut written) = ([0; map_words(0, 8)], [0; map_words(0, 8)]);
+    /// # let (mut permanent, mut scratch) = ([0; 0], [0; 16]);
+    /// # let (mut map, mut written) = ([0; map_words(0, 16)], [0; map_words(0, 16)]);
     /// # let mut core = Core::set_up(&mut permanent, &mut scratch, &mut map, &mut written, 0, 0)?;
     /// # let (driver, plotter, sample) = (Thread::new(0), Thread::new(1), Area::new(2));
     /// # core.start(driver, Kind::RealTime)?;
@@ -135,9 +136,37 @@ impl<'m> Core<'m> {
         value(record::end(self, thread.number())).map(|_| ())
     }
 
-    /// Makes a scope of a size in words, from the next unused scratch words. Refusals 2, 6, 7, 8.
+    /// Makes a scope of a size in words. It gets the lowest run of adjacent free blocks of scratch, 16
+    /// words each, that holds them, and keeps it until it is removed; its objects get no more than the
+    /// size that was asked for. Refusals 2, 6, 7, 8.
     pub fn make(&mut self, thread: Thread, scope: Area, size: u64) -> Result<(), Refusal> {
         let answer = record::make(self, thread.number(), scope.number(), size);
+        value(answer).map(|_| ())
+    }
+
+    /// Removes a scope that is not open: it counts as not made from then on, and its blocks are free
+    /// for other scopes. Made again, it may lie elsewhere; its generations go on, so that its old
+    /// handles stay dead. No lent word changes. Refusals 2, 6, 20.
+    ///
+    /// ```
+    /// # use scopes::{map_words, Area, Core, Kind, Refusal, Thread};
+    /// # let (mut permanent, mut scratch) = ([0; 0], [0; 16]);
+    /// # let (mut map, mut written) = ([0; map_words(0, 16)], [0; map_words(0, 16)]);
+    /// # let mut core = Core::set_up(&mut permanent, &mut scratch, &mut map, &mut written, 0, 0)?;
+    /// # let (meter, oak, pine) = (Thread::new(0), Area::new(2), Area::new(3));
+    /// # core.start(meter, Kind::RealTime)?;
+    /// # core.make(meter, oak, 16)?;
+    /// core.enter(meter, oak)?;
+    /// assert_eq!(core.remove(meter, oak), Err(Refusal::Open));
+    /// core.exit(meter)?;
+    /// assert_eq!(core.make(meter, pine, 9), Err(Refusal::Size)); // the emptied scope keeps its room
+    /// core.remove(meter, oak)?;
+    /// core.make(meter, pine, 9)?;
+    /// assert_eq!(core.enter(meter, oak), Err(Refusal::Area));
+    /// # Ok::<(), Refusal>(())
+    /// ```
+    pub fn remove(&mut self, thread: Thread, scope: Area) -> Result<(), Refusal> {
+        let answer = record::remove(self, thread.number(), scope.number());
         value(answer).map(|_| ())
     }
 
@@ -147,7 +176,8 @@ impl<'m> Core<'m> {
         value(answer)
     }
 
-    /// Leaves the current area; the count of entries left of a scope, else 0. Refusals 2, 11.
+    /// Leaves the current area; the count of entries left of a scope, else 0. A scope that its last
+    /// thread leaves is emptied, and keeps its blocks. Refusals 2, 11.
     pub fn exit(&mut self, thread: Thread) -> Result<u64, Refusal> {
         value(record::exit(self, thread.number()))
     }

@@ -21,8 +21,9 @@
 //! core.write(meter, points, 0, 41)?;
 //! assert_eq!(core.view(meter, points)?, [41, 0, 0]);
 //! assert_eq!(core.read(meter, points, 1), Err(Refusal::Unwritten)); // 0, but nobody wrote it
-//! core.exit(meter)?;
+//! core.exit(meter)?; // the last thread leaves: the scope is emptied
 //! assert!(core.view(meter, points).is_err());
+//! core.remove(meter, sample)?; // its words are free for other scopes
 //! # Ok::<(), Refusal>(())
 //! ```
 //!

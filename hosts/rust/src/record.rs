@@ -88,6 +88,7 @@ changes! {
     fn start_helper(thread, kind, helper) = scopes_start_helper;
     fn end(thread) = scopes_end;
     fn make(thread, area, size) = scopes_make;
+    fn remove(thread, area) = scopes_remove;
     fn enter(thread, area) = scopes_enter;
     fn exit(thread) = scopes_exit;
     fn allocate(thread, slots, data_words) = scopes_allocate;
@@ -188,7 +189,8 @@ mod tests {
         assert_eq!(start(core, 1, 2).status, 1);
         assert_eq!(start_helper(core, 0, 2, 1).status, 1);
         assert_eq!(end(core, 0).status, 1);
-        assert_eq!(make(core, 0, 2, 8).status, 1);
+        assert_eq!(make(core, 0, 3, 8).status, 1);
+        assert_eq!(remove(core, 0, 2).status, 1);
         assert_eq!(enter(core, 0, 0).status, 1);
         assert_eq!(exit(core, 0).status, 1);
         assert_eq!(allocate(core, 0, 0, 1).status, 1);
@@ -214,6 +216,7 @@ mod tests {
         let (status, mut core) = set_up(memory, 64, 0);
         assert_eq!(status, 0);
         assert_eq!(start(&mut core, 0, 2).status, 0);
+        assert_eq!(make(&mut core, 0, 2, 8).status, 0);
         let lengths: [fn(&mut crate::sys::Core) -> &mut usize; 4] = [
             |record| &mut record.permanent_len,
             |record| &mut record.scratch_len,
@@ -225,6 +228,7 @@ mod tests {
             refuses_by_1(&mut core);
             *length(&mut core.record) += 1;
         }
+        assert_eq!(remove(&mut core, 0, 2).status, 0);
         assert_eq!(end(&mut core, 0).status, 0);
     }
 
@@ -249,6 +253,7 @@ mod tests {
         assert_eq!(enter(&mut core, 0, 1).value, 1);
         assert_eq!(allocate(&mut core, 0, 0, 0).status, 12);
         assert_eq!(make(&mut core, 0, 2, 1).status, 8);
+        assert_eq!(remove(&mut core, 0, 2).status, 6);
     }
 
     /// The status and the tables of a set-up in a place that is painted before.

@@ -53,11 +53,11 @@ refusals! {
     Kind = 4,
     /// The thread's kind (of `start_helper`: the helper's) lacks the right, by the table in force.
     Right = 5,
-    /// Area above 63, or scope not made; of `make`: no scope's number.
+    /// Area above 63, or scope not made; of `make`: no scope's number; of `remove`: that, or not made.
     Area = 6,
     /// Scope already made.
     Made = 7,
-    /// Size 0, or above the unused scratch words.
+    /// Size 0, or no run of free blocks holds it.
     Size = 8,
     /// Stack has 32 entries.
     StackFull = 9,
@@ -79,6 +79,8 @@ refusals! {
     GenerationsOut = 17,
     /// Read: nobody wrote this data word since the object was made.
     Unwritten = 19,
+    /// The scope is open.
+    Open = 20,
     /// A rights table has not 36 digits, a digit other than 0 and 1, or A without U.
     Table = 23,
     /// A thread is started.
@@ -118,7 +120,7 @@ mod tests {
     /// A status of a later archive is told as it is.
     #[test]
     fn unknown_status() {
-        for status in [18, 20, 25, u64::MAX] {
+        for status in [18, 21, 25, u64::MAX] {
             let refused = value(Answer { status, value: 0 }).unwrap_err();
             assert_eq!(refused, Refusal::Unknown { status });
             assert_eq!(refused.number(), status);

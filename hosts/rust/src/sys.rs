@@ -2,8 +2,10 @@
 //! nothing over them. That header says what each function does and what its caller owes; every one is
 //! unsafe to call. [`Core`](crate::Core) is safe and needs none of this.
 
+use core::mem::offset_of;
+
 /// How many words a state has.
-pub const STATE_WORDS: usize = 548;
+pub const STATE_WORDS: usize = 563;
 /// How many bytes a state has beside its words.
 pub const STATE_BYTES: usize = 3108;
 
@@ -46,12 +48,19 @@ pub struct ScopeStack {
     pub entries: [u8; 32],
 }
 
-/// `scopes_core`: the handle of a core, a state and the buffers of its set-up with their lengths. At
-/// a multiple of 64 bytes no display of the state crosses a cache line.
+/// No bytes, at a multiple of 64 bytes: what follows in a record begins a cache line.
 #[repr(C, align(64))]
+#[derive(Clone, Copy, Debug, Default, PartialEq, Eq)]
+pub struct CacheLine;
+
+/// `scopes_core`: the handle of a core, a state and the buffers of its set-up with their lengths.
+/// Words and bytes each begin a cache line, so that no area's record and no display crosses one.
+#[repr(C)]
 #[allow(missing_docs)]
 pub struct Core {
+    pub words_line: CacheLine,
     pub words: [u64; STATE_WORDS],
+    pub bytes_line: CacheLine,
     pub bytes: [u8; STATE_BYTES],
     pub permanent: *mut u64,
     pub permanent_len: usize,
@@ -62,6 +71,12 @@ pub struct Core {
     pub written: *mut u64,
     pub written_len: usize,
 }
+
+// As in the header: the bytes begin at the next cache line behind the words, the buffers right behind.
+const BYTES_AT: usize = (8 * STATE_WORDS).next_multiple_of(64);
+const _: () = assert!(align_of::<Core>() == 64 && offset_of!(Core, words) == 0);
+const _: () = assert!(offset_of!(Core, bytes) == BYTES_AT);
+const _: () = assert!(offset_of!(Core, permanent) == (BYTES_AT + STATE_BYTES).next_multiple_of(8));
 
 /// Declares functions over the state's words and bytes and the four buffers, each as `const` or
 /// `mut`, then numbers.
@@ -94,6 +109,7 @@ exported! {
     scopes_start_helper(mut mut, const const const, thread, kind, helper) -> Answer;
     scopes_end(mut const, const const const, thread) -> Answer;
     scopes_make(mut const, const const const, thread, area, size) -> Answer;
+    scopes_remove(mut const, const const const, thread, area) -> Answer;
     scopes_enter(mut mut, const const const, thread, area) -> Answer;
     scopes_exit(mut const, const const const, thread) -> Answer;
     scopes_allocate(mut const, mut mut mut, thread, slots, data_words) -> Answer;

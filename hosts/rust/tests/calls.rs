@@ -4,7 +4,7 @@ mod common;
 
 use std::mem::MaybeUninit;
 
-use common::{area, handle, thread, Buffers, HEAP, IMMORTAL, PERMANENT, SCRATCH};
+use common::{area, handle, thread, words, Buffers, HEAP, IMMORTAL, PERMANENT, SCRATCH};
 use scopes::{map_words, Area, Core, Kind, Refusal, ScopeStack};
 
 #[test]
@@ -40,6 +40,172 @@ fn scopes_open_and_empty() {
     assert_eq!(core.exit(thread(0)), Ok(1));
     assert_eq!(core.exit(thread(2)), Ok(0));
     assert_eq!(core.enter(thread(0), area(2)), Ok(2));
+}
+
+/// Where a scope begins in the scratch store: it is entered, and an object with one data word shows it.
+fn start_of(core: &mut Core, scope: Area) -> usize {
+    core.enter(thread(0), scope).unwrap();
+    let object = core.allocate(thread(0), 0, 1).unwrap();
+    let view = core.view(thread(0), object).unwrap();
+    let mut words = core.scratch().iter();
+    let header = words.position(|word| std::ptr::eq(word, &view[0])).unwrap() - 1;
+    core.exit(thread(0)).unwrap();
+    header
+}
+
+/// Scopes 2 to 7 made, each of one block, which are all.
+fn begin_full(buffers: &mut Buffers) -> Core<'_> {
+    let mut core = buffers.begin();
+    for number in 4..8 {
+        core.make(thread(0), area(number), 16).unwrap();
+    }
+    core
+}
+
+/// Whole blocks, one after the other from the first word on; the size is no multiple of them.
+#[test]
+fn scopes_begin_with_blocks() {
+    let mut buffers = Buffers::new();
+    let mut core = buffers.begin();
+    core.make(thread(0), area(4), 17).unwrap();
+    core.make(thread(0), area(5), 32).unwrap();
+    let starts = [2, 3, 4, 5].map(|number| start_of(&mut core, area(number)));
+    assert_eq!(starts, [0, 16, 32, 64]);
+}
+
+/// What is removed is free for others: they get the lowest run that holds them, and a hole that is
+/// too short is passed over.
+#[test]
+fn scopes_get_the_lowest_run() {
+    let mut buffers = Buffers::new();
+    let mut core = begin_full(&mut buffers);
+    for number in [2, 4, 5, 7] {
+        assert_eq!(core.remove(thread(0), area(number)), Ok(()));
+    }
+    core.make(thread(0), area(8), 17).unwrap();
+    core.make(thread(0), area(9), 2).unwrap();
+    core.make(thread(0), area(10), 16).unwrap();
+    let starts = [8, 9, 10].map(|number| start_of(&mut core, area(number)));
+    assert_eq!(starts, [32, 0, 80]);
+    assert_eq!(core.make(thread(0), area(11), 1), Err(Refusal::Size));
+}
+
+/// A scope's room is the size as asked: the words behind it in its last block are not used.
+#[test]
+fn sizes_stay_as_asked() {
+    let mut buffers = Buffers::new();
+    let mut core = buffers.begin();
+    core.make(thread(0), area(4), 17).unwrap();
+    core.enter(thread(0), area(4)).unwrap();
+    assert_eq!(core.allocate(thread(0), 0, 17), Err(Refusal::Room));
+    assert!(core.allocate(thread(0), 0, 16).is_ok());
+    assert_eq!(core.allocate(thread(0), 0, 0), Err(Refusal::Room));
+}
+
+/// A scope that is made again goes on with its generations, wherever it lies: no old handle is live.
+#[test]
+fn removed_scopes_are_made_again() {
+    let mut buffers = Buffers::new();
+    let mut core = begin_full(&mut buffers);
+    assert_eq!(core.enter(thread(0), area(2)), Ok(1));
+    let old = core.allocate(thread(0), 1, 1).unwrap();
+    core.write(thread(0), old, 0, 7).unwrap();
+    core.exit(thread(0)).unwrap();
+    core.remove(thread(0), area(2)).unwrap();
+    assert_eq!(core.enter(thread(0), area(2)), Err(Refusal::Area));
+    core.make(thread(0), area(8), 16).unwrap();
+    core.remove(thread(0), area(7)).unwrap();
+    core.make(thread(0), area(2), 16).unwrap();
+    assert_eq!(core.read(thread(0), old, 0), Err(Refusal::Object));
+    assert_eq!(core.enter(thread(0), area(2)), Ok(2));
+    let new = core.allocate(thread(0), 1, 1).unwrap();
+    assert_eq!(new.word(), old.word() + (1 << 20));
+    let view = core.view(thread(0), new).unwrap();
+    assert!(std::ptr::eq(view, &core.scratch()[82..83]));
+    assert_eq!(core.read(thread(0), old, 0), Err(Refusal::Object));
+    assert_eq!(core.read(thread(0), new, 0), Err(Refusal::Unwritten));
+    let stored = core.store(thread(0), new, 0, Some(old));
+    assert_eq!(stored, Err(Refusal::Target));
+}
+
+/// An old handle stays dead where another scope has its words, and where its own is never made again.
+#[test]
+fn handles_of_removed_scopes_are_dead() {
+    let mut buffers = Buffers::new();
+    let mut core = begin_full(&mut buffers);
+    core.enter(thread(0), area(2)).unwrap();
+    let old = core.allocate(thread(0), 1, 1).unwrap();
+    core.exit(thread(0)).unwrap();
+    core.remove(thread(0), area(2)).unwrap();
+    assert_eq!(core.view(thread(0), old), Err(Refusal::Object));
+    core.make(thread(0), area(8), 16).unwrap();
+    core.enter(thread(0), area(8)).unwrap();
+    let other = core.allocate(thread(0), 1, 1).unwrap();
+    assert_eq!(core.load(thread(0), other, 0), Ok(None));
+    assert_eq!(core.view(thread(0), old), Err(Refusal::Object));
+}
+
+/// The last exit frees nothing; a removal changes no lent word.
+#[test]
+fn closed_scopes_keep_their_room() {
+    let mut buffers = Buffers::new();
+    let mut core = begin_full(&mut buffers);
+    core.enter(thread(0), area(2)).unwrap();
+    let object = core.allocate(thread(0), 1, 1).unwrap();
+    core.write(thread(0), object, 0, 7).unwrap();
+    core.exit(thread(0)).unwrap();
+    assert_eq!(core.make(thread(0), area(8), 1), Err(Refusal::Size));
+    let kept = words(&core);
+    core.remove(thread(0), area(2)).unwrap();
+    core.make(thread(0), area(8), 1).unwrap();
+    assert_eq!(words(&core), kept);
+}
+
+/// No right is asked for: an ordinary thread, which may not enter scopes, makes and removes them.
+#[test]
+fn any_thread_makes_and_removes() {
+    let mut buffers = Buffers::new();
+    let mut core = buffers.begin();
+    assert_eq!(core.remove(thread(1), area(2)), Ok(()));
+    assert_eq!(core.make(thread(1), area(2), 8), Ok(()));
+    assert_eq!(core.enter(thread(1), area(2)), Err(Refusal::Right));
+}
+
+/// Of 40 words the last 8 are no block.
+#[test]
+fn a_shorter_rest_is_not_used() {
+    let (mut scratch, mut map, mut written) = ([0; 40], [0; 1], [0; 1]);
+    let core = Core::set_up(&mut [], &mut scratch, &mut map, &mut written, 0, 0);
+    let mut core = core.unwrap();
+    core.start(thread(0), Kind::RealTime).unwrap();
+    for size in [33, 40] {
+        assert_eq!(core.make(thread(0), area(2), size), Err(Refusal::Size));
+    }
+    assert_eq!(core.make(thread(0), area(2), 32), Ok(()));
+    assert_eq!(core.make(thread(0), area(3), 1), Err(Refusal::Size));
+}
+
+/// All 1,024 blocks, one by one for as many scopes as there are and the rest for the last; then, after
+/// every removal, all for one.
+#[test]
+fn every_block_is_handed_out() {
+    let mut scratch = vec![0; 16_384];
+    let (mut map, mut written) = ([0; map_words(0, 16_384)], [0; map_words(0, 16_384)]);
+    let core = Core::set_up(&mut [], &mut scratch, &mut map, &mut written, 0, 0);
+    let mut core = core.unwrap();
+    core.start(thread(0), Kind::RealTime).unwrap();
+    for number in 2..63 {
+        core.make(thread(0), area(number), 1).unwrap();
+    }
+    let rest = 16_384 - 61 * 16;
+    let made = core.make(thread(0), area(63), rest + 1);
+    assert_eq!(made, Err(Refusal::Size));
+    assert_eq!(core.make(thread(0), area(63), rest), Ok(()));
+    assert_eq!(start_of(&mut core, area(63)), 61 * 16);
+    for number in 2..64 {
+        assert_eq!(core.remove(thread(0), area(number)), Ok(()));
+    }
+    assert_eq!(core.make(thread(0), area(2), 16_384), Ok(()));
 }
 
 /// A helper stands where its starter stands, in scopes that it never entered, with the rights of its
@@ -135,7 +301,8 @@ fn objects_lie_in_the_current_area() {
     core.enter(thread(0), area(3)).unwrap();
     let object = core.allocate(thread(0), 0, 1).unwrap();
     assert_eq!(object.word(), 1 << 20 | 3 << 14);
-    assert_eq!(core.scratch()[8..10], [1 << 14, 0]);
+    // Scope 3 has the second block.
+    assert_eq!(core.scratch()[16..18], [1 << 14, 0]);
 }
 
 #[test]

@@ -6,7 +6,7 @@ mod common;
 
 use std::mem::MaybeUninit;
 
-use common::{area, handle, thread, Buffers};
+use common::{area, handle, thread, words, Buffers};
 use scopes::{Area, Core, Kind, Refusal, ScopeStack};
 
 /// The refusal of a set-up over buffers of these lengths: the stores, the maps.
@@ -60,6 +60,8 @@ fn refused_by_2_thread() {
     let mut core = buffers.begin();
     for number in [3, 15, 16, u64::MAX] {
         assert_eq!(core.exit(thread(number)), Err(Refusal::Thread));
+        let removed = core.remove(thread(number), area(2));
+        assert_eq!(removed, Err(Refusal::Thread));
         let view = core.view(thread(number), handle(1));
         assert_eq!(view, Err(Refusal::Thread));
     }
@@ -161,10 +163,27 @@ fn refused_by_6_area() {
     assert_eq!(ScopeStack::empty().push(area(64)), Err(Refusal::Area));
 }
 
+/// Outside 2 to 63, never made, or removed before. A number above 63 is not taken for one below.
+#[test]
+fn refused_by_6_remove() {
+    let mut buffers = Buffers::new();
+    let mut core = buffers.begin();
+    for number in [0, 1, 4, 63, 64, 66, 1 << 32 | 2, u64::MAX] {
+        assert_eq!(core.remove(thread(0), area(number)), Err(Refusal::Area));
+    }
+    assert_eq!(core.remove(thread(0), area(2)), Ok(()));
+    assert_eq!(core.remove(thread(0), area(2)), Err(Refusal::Area));
+    assert_eq!(core.enter(thread(0), area(2)), Err(Refusal::Area));
+    assert_eq!(core.enter(thread(0), area(3)), Ok(1));
+}
+
 #[test]
 fn refused_by_7_made() {
     let mut buffers = Buffers::new();
     let mut core = buffers.begin();
+    assert_eq!(core.make(thread(0), area(2), 1), Err(Refusal::Made));
+    core.remove(thread(0), area(2)).unwrap();
+    assert_eq!(core.make(thread(0), area(2), 1), Ok(()));
     assert_eq!(core.make(thread(0), area(2), 1), Err(Refusal::Made));
 }
 
@@ -172,10 +191,28 @@ fn refused_by_7_made() {
 fn refused_by_8_size() {
     let mut buffers = Buffers::new();
     let mut core = buffers.begin();
-    for size in [0, 81, u64::MAX] {
+    // Four blocks are free. The largest sizes wrap where they are rounded up.
+    for size in [0, 65, 80, u64::MAX - 15, u64::MAX - 14, u64::MAX] {
         assert_eq!(core.make(thread(0), area(4), size), Err(Refusal::Size));
     }
-    assert_eq!(core.make(thread(0), area(4), 80), Ok(()));
+    assert_eq!(core.make(thread(0), area(4), 64), Ok(()));
+    assert_eq!(core.make(thread(0), area(5), 1), Err(Refusal::Size));
+}
+
+/// Enough blocks are free in all, but not side by side.
+#[test]
+fn refused_by_8_fragments() {
+    let mut buffers = Buffers::new();
+    let mut core = buffers.begin();
+    core.make(thread(0), area(4), 16).unwrap();
+    core.make(thread(0), area(5), 33).unwrap();
+    for number in [2, 4] {
+        core.remove(thread(0), area(number)).unwrap();
+    }
+    assert_eq!(core.make(thread(0), area(6), 17), Err(Refusal::Size));
+    core.remove(thread(0), area(3)).unwrap();
+    assert_eq!(core.make(thread(0), area(6), 49), Err(Refusal::Size));
+    assert_eq!(core.make(thread(0), area(6), 48), Ok(()));
 }
 
 #[test]
@@ -318,9 +355,27 @@ fn refused_by_19_in_an_old_place() {
     assert_eq!(core.read(thread(0), new, 0), Ok(8));
 }
 
-/// All lent words.
-fn words(core: &Core) -> [Vec<u64>; 4] {
-    [core.permanent(), core.scratch(), core.map(), core.written()].map(<[u64]>::to_vec)
+/// While any thread is in the scope, whoever asks: one that entered it, or a helper that was started
+/// there.
+#[test]
+fn refused_by_20_open() {
+    let mut buffers = Buffers::new();
+    let mut core = buffers.begin();
+    core.enter(thread(0), area(2)).unwrap();
+    let object = core.allocate(thread(0), 0, 1).unwrap();
+    core.enter(thread(0), Area::IMMORTAL).unwrap();
+    core.enter(thread(2), area(2)).unwrap();
+    let helper = thread(3);
+    core.start_helper(thread(0), Kind::NoHeap, helper).unwrap();
+    for leaving in [0, 0, 2, 3, 3] {
+        for asking in 0..4 {
+            let removed = core.remove(thread(asking), area(2));
+            assert_eq!(removed, Err(Refusal::Open));
+        }
+        assert_eq!(core.view(thread(0), object), Ok(&[0][..]));
+        core.exit(thread(leaving)).unwrap();
+    }
+    assert_eq!(core.remove(thread(0), area(2)), Ok(()));
 }
 
 /// A refused call changes no word.
@@ -339,11 +394,11 @@ fn refusals_change_nothing() {
 
 #[test]
 fn numbers_of_refusals() {
-    for number in (1..=17).chain([19, 23, 24]) {
+    for number in (1..=17).chain([19, 20, 23, 24]) {
         let refusal = Refusal::from_number(number).unwrap();
         assert_eq!(refusal.number(), number);
     }
-    for number in [0, 18, 20, 21, 22, 25, u64::MAX] {
+    for number in [0, 18, 21, 22, 25, u64::MAX] {
         assert_eq!(Refusal::from_number(number), None);
     }
     let text = Refusal::Parent.to_string();

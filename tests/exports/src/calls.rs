@@ -142,5 +142,6 @@ fn call_op(state: &mut NewState, supplied: &mut Supplied, t: u64, op: Op) -> Ans
         Op::StartHelper { kind, helper } => {
             call!(scopes_start_helper, state, supplied, t, kind, helper)
         }
+        Op::Remove { area } => call!(scopes_remove, state, supplied, t, area),
     }
 }

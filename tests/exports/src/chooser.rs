@@ -1,5 +1,6 @@
 //! Chooses calls that mean something to the state they meet, and some that mean nothing.
 
+use reference::blocks::BLOCK_WORDS;
 use reference::calls::Op;
 use reference::layout::{Handle, NULL};
 use reference::memory::Memory;
@@ -7,17 +8,20 @@ use reference::random::Random;
 use reference::state::{is_scope, Object, State, AREAS, FIRST_SCOPE, LAST_GENERATION, THREADS};
 use reference::texts;
 
+use crate::blocks;
 use crate::calls::Request;
 use crate::pair::{op, Buffer};
 
 /// How many handles are remembered.
 const REMEMBERED: usize = 60;
-/// Functions to choose from: ops 01 to 0b, the two calls of the shown part, then the load.
-const FUNCTIONS: usize = 14;
+/// Functions to choose from: ops 01 to 0c, the two calls of the shown part, then the load.
+const FUNCTIONS: usize = 15;
 
 /// The weight of entries where a stack is to be filled; helpers have a tenth of it then, others at most
 /// 10.
 const FILLING: u64 = 300;
+/// The weight of makes and of removes where scratch is to fall into pieces.
+const CHANGING: u64 = 60;
 
 /// What the chooser sees: the second implementation's state and memory.
 #[derive(Clone, Copy)]
@@ -57,7 +61,7 @@ impl Chooser {
         Chooser {
             random,
             known: Vec::new(),
-            weights: [6, 1, 6, 4, 1, 2, 1, 1, 1, 1, 1, 1, 1, 1],
+            weights: [6, 1, 6, 4, 1, 2, 1, 1, 1, 1, 1, 1, 1, 1, 1],
             calls_left: 20,
             focus: 0,
             leading_out: false,
@@ -96,11 +100,12 @@ impl Chooser {
             8 => op(thread, self.write(seen)),
             9 => op(thread, self.read(seen)),
             10 => self.start_helper(state, thread),
-            11 => Request::ViewStatus {
+            11 => op(thread, self.remove(state)),
+            12 => Request::ViewStatus {
                 thread,
                 object: self.object(seen),
             },
-            12 => Request::ViewPlace {
+            13 => Request::ViewPlace {
                 thread,
                 object: self.object(seen),
             },
@@ -128,7 +133,7 @@ impl Chooser {
     }
 
     /// Every few calls another mixture; now and then almost nothing but entries, to fill a stack, and
-    /// helpers, to copy it.
+    /// helpers, to copy it; or makes and removes; or what uses scopes and makes them again.
     fn change_weights(&mut self) {
         if self.calls_left > 0 {
             self.calls_left -= 1;
@@ -139,15 +144,35 @@ impl Chooser {
         for weight in &mut self.weights {
             *weight = self.random.between(1, 10);
         }
-        if self.random.percent(15) {
-            self.weights[3] = FILLING;
-            self.weights[10] = FILLING / 10;
-            self.calls_left = 80;
-        }
-        // Threads end seldom, so that some are there, but now and then all do. Loads are seldom too.
+        // Threads end seldom, so that some are there, but now and then all do. Removes and loads are
+        // seldom too.
         self.weights[1] = 1;
-        self.weights[13] = 1;
+        self.weights[11] = self.random.between(1, 2);
+        self.weights[14] = 1;
         self.leading_out = self.random.percent(6);
+        match self.random.below(100) {
+            0..=14 => self.fill_stacks(),
+            15..=24 => self.change_scopes(),
+            25..=39 => self.renew_scopes(),
+            _ => {}
+        }
+    }
+
+    fn fill_stacks(&mut self) {
+        self.weights[3] = FILLING;
+        self.weights[10] = FILLING / 10;
+        self.calls_left = 80;
+    }
+
+    fn change_scopes(&mut self) {
+        self.weights[2] = CHANGING;
+        self.weights[11] = CHANGING;
+        self.calls_left = self.random.between(20, 60);
+    }
+
+    fn renew_scopes(&mut self) {
+        self.weights = [5, 1, 12, 30, 12, 30, 20, 6, 6, 12, 3, 8, 2, 2, 1];
+        self.calls_left = self.random.between(50, 100);
     }
 
     /// One of a few bad numbers, or any.
@@ -217,20 +242,51 @@ impl Chooser {
     }
 
     fn make(&mut self, state: &State) -> Op {
-        let unused = state.lengths.scratch - state.scratch_taken;
-        let size = match self.random.below(12) {
-            0 => 0,
-            1 => unused,
-            2 => unused + 1,
-            3 => self.any_word(),
-            _ => self.random.between(1, 30),
-        };
+        let size = self.size(state);
+        let removed: Vec<u64> = (FIRST_SCOPE..AREAS)
+            .filter(|&scope| !state.area(scope).made && state.area(scope).generation > 0)
+            .collect();
+        let any = self.random.between(FIRST_SCOPE, 12);
         let area = match self.random.below(10) {
             0 => self.any_word(),
             1 => self.random.below(66),
-            _ => self.random.between(FIRST_SCOPE, 12),
+            2..=5 => self.random.one_of(&removed).unwrap_or(any),
+            _ => any,
         };
         Op::Make { area, size }
+    }
+
+    /// Whole blocks or a word more: a few, a part of the longest free run or all of it, or as many as
+    /// are free in all. Else a few words, or any number, also one that wraps where it is rounded up.
+    fn size(&mut self, state: &State) -> u64 {
+        let runs = blocks::free_runs(state);
+        let longest = runs.iter().max().copied().unwrap_or(0);
+        let blocks = match self.random.below(20) {
+            0 => return self.any_word(),
+            1 => return u64::MAX - self.random.below(16),
+            2 => self.random.below(longest + 1),
+            3 => longest,
+            4 => runs.iter().sum(),
+            5..=8 => self.random.below(4),
+            _ => return self.random.between(1, 30),
+        };
+        blocks * BLOCK_WORDS + self.random.below(2)
+    }
+
+    /// Mostly a scope that is made and not open.
+    fn remove(&mut self, state: &State) -> Op {
+        let made = (FIRST_SCOPE..AREAS).filter(|&scope| state.area(scope).made);
+        let open_too = self.random.percent(20);
+        let scopes: Vec<u64> = made
+            .filter(|&scope| open_too || !state.is_open(scope))
+            .collect();
+        let any = self.random.below(AREAS);
+        let area = match self.random.below(12) {
+            0 => self.any_word(),
+            1 => any,
+            _ => self.random.one_of(&scopes).unwrap_or(any),
+        };
+        Op::Remove { area }
     }
 
     fn enter(&mut self, state: &State) -> Op {
@@ -284,9 +340,20 @@ impl Chooser {
             1 => self.any_word(),
             2 => known ^ (1 << self.random.below(64)),
             3 => known,
-            4..=6 => self.made_up(seen.state),
+            4 => self.old(seen.state).unwrap_or(known),
+            5..=7 => self.made_up(seen.state),
             _ => self.live(seen).unwrap_or(known),
         }
+    }
+
+    /// A handle that was given before its scope was opened again.
+    fn old(&mut self, state: &State) -> Option<u64> {
+        let is_old = |&word: &u64| {
+            let handle = Handle::unpack(word);
+            state.is_open(handle.area) && handle.generation < state.area(handle.area).generation
+        };
+        let old: Vec<u64> = self.known.iter().copied().filter(is_old).collect();
+        self.random.one_of(&old)
     }
 
     fn live(&mut self, seen: Seen) -> Option<u64> {
@@ -323,8 +390,17 @@ impl Chooser {
         Op::Store {
             object: self.object(seen),
             slot: self.index(),
-            target: self.object(seen),
+            target: self.target(seen),
         }
+    }
+
+    /// As an object, but more often an old handle.
+    fn target(&mut self, seen: Seen) -> u64 {
+        let object = self.object(seen);
+        if self.random.percent(20) {
+            return self.old(seen.state).unwrap_or(object);
+        }
+        object
     }
 
     fn load(&mut self, seen: Seen) -> Op {
@@ -417,10 +493,11 @@ impl Chooser {
         Some((Buffer::Written, number / 64, bits))
     }
 
-    /// A scope that is not open, and a generation that is the last one or near it.
+    /// A scope that is not open, made or removed, and a generation that is the last one or near it.
     pub fn generation(&mut self, state: &State) -> Option<(u64, u64)> {
         let closed: Vec<u64> = (FIRST_SCOPE..AREAS)
-            .filter(|&scope| !state.is_open(scope) && state.area(scope).made)
+            .filter(|&scope| !state.is_open(scope))
+            .filter(|&scope| state.area(scope).made || state.area(scope).generation > 0)
             .collect();
         let scope = self.random.one_of(&closed).filter(|&s| is_scope(s))?;
         Some((scope, LAST_GENERATION - self.random.below(3)))

@@ -1,13 +1,14 @@
 //! One list of calls from a seed: a set-up, random calls with words that the host writes between
 //! them, every thread led out at the end, and a stack record.
 
+use reference::blocks::BLOCK_WORDS;
 use reference::calls::{Call, Op};
 use reference::layout::Handle;
 use reference::memory::{Lengths, Memory};
 use reference::random::Random;
 use reference::rights::{Kind, Right, DIGITS};
-use reference::state::{is_scope, HEAP, IMMORTAL, LAST_GENERATION, MOST_WORDS};
-use reference::state::{STACK_ENTRIES, THREADS};
+use reference::state::{is_scope, AREAS, FIRST_SCOPE, HEAP, IMMORTAL, LAST_GENERATION};
+use reference::state::{MOST_WORDS, STACK_ENTRIES, THREADS};
 use reference::texts::{self, Text};
 
 use crate::calls::{Reply, Request};
@@ -16,7 +17,8 @@ use crate::exports::View;
 use crate::helpers::Received;
 use crate::pair::{op, Pair};
 use crate::records;
-use crate::tally::Tally;
+use crate::removals::Removals;
+use crate::tally::{Note, Tally};
 
 /// A list's outcome: the words say where the two sides differ.
 pub fn run(seed: u64, count: u64, tally: &mut Tally) -> Result<(), String> {
@@ -33,6 +35,7 @@ pub fn run(seed: u64, count: u64, tally: &mut Tally) -> Result<(), String> {
         chooser: Chooser::new(random),
         given: Vec::new(),
         received: Received::default(),
+        removals: Removals::default(),
         tally,
     };
     for number in 0..count {
@@ -144,6 +147,8 @@ struct List<'t> {
     given: Vec<u64>,
     /// The entries that helpers received.
     received: Received,
+    /// What was removed.
+    removals: Removals,
     tally: &'t mut Tally,
 }
 
@@ -180,7 +185,7 @@ impl List<'_> {
         Ok(())
     }
 
-    fn note_all(&mut self, notes: &[(bool, &'static str)]) {
+    fn note_all(&mut self, notes: &[Note]) {
         for &(happened, situation) in notes {
             self.tally.note(happened, situation);
         }
@@ -256,6 +261,14 @@ impl List<'_> {
             }
             Op::StartHelper { kind, helper } => self.look_at_helper(call.thread, kind, helper),
             Op::Exit => self.look_at_exit(call.thread, value),
+            Op::Make { area, size } => {
+                let notes = self.removals.make(&self.pair.state, area, size);
+                self.note_all(&notes);
+            }
+            Op::Remove { area } => {
+                let notes = self.removals.remove(&self.pair.state, call.thread, area);
+                self.note_all(&notes);
+            }
             _ => {}
         }
     }
@@ -289,6 +302,8 @@ impl List<'_> {
         if let Op::StartHelper { kind, helper } = call.op {
             return self.look_at_refused_helper(call.thread, kind, helper, status);
         }
+        let notes = self.removals.refused(&self.pair.state, call, status);
+        self.note_all(&notes);
         let real_time = self.kind(call.thread) == Some(Kind::RealTime);
         let situation = "a real-time thread lacks a right";
         self.tally.note(status == 5 && real_time, situation);
@@ -347,8 +362,8 @@ impl List<'_> {
         self.note_all(&notes);
     }
 
-    /// Shows what the calls left: every known object, and every stack, taken off entry by entry. A
-    /// table can be loaded then.
+    /// Shows what the calls left: every known object, every stack, taken off entry by entry, and every
+    /// scope, taken down. A table can be loaded then.
     fn lead_out(&mut self) -> Result<(), String> {
         for thread in 0..THREADS {
             for object in self.chooser.known().to_vec() {
@@ -359,7 +374,22 @@ impl List<'_> {
             }
             self.call(op(thread, Op::End))?;
         }
+        self.take_down()?;
         let text = texts::table(&mut self.chooser.random);
         self.call(Request::LoadRights { text })
+    }
+
+    /// Every scope is removed; one then gets all blocks, and no word more.
+    fn take_down(&mut self) -> Result<(), String> {
+        self.call(op(0, Op::Start { kind: 2 }))?;
+        for area in 0..AREAS {
+            self.call(op(0, Op::Remove { area }))?;
+        }
+        let words = self.pair.state.used_blocks.len() as u64 * BLOCK_WORDS;
+        for size in [words + 1, words] {
+            let area = FIRST_SCOPE;
+            self.call(op(0, Op::Make { area, size }))?;
+        }
+        self.call(op(0, Op::End))
     }
 }

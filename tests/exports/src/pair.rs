@@ -5,6 +5,7 @@ use reference::calls::{Call, Op};
 use reference::memory::Memory;
 use reference::state::{self, State};
 
+use crate::blocks;
 use crate::calls::{self, Reply, Request};
 use crate::chooser::Seen;
 use crate::exports::{Answer, NewState, View};
@@ -49,7 +50,7 @@ impl Pair {
             state,
             memory,
         };
-        pair.same_rights()
+        pair.same_parts()
             .map_err(|words| format!("{request}: {words}"))?;
         Ok((status, pair))
     }
@@ -92,22 +93,33 @@ impl Pair {
         if given != expected {
             return Err(format!("{request:x?}: {given:?}, expected {expected:?}"));
         }
-        if let Some(words) = difference {
-            return Err(format!("{request:x?}: {words}"));
-        }
-        let keeps_state = given.status() != 0 || request.keeps_state();
-        if keeps_state && self.given != *before {
-            return Err(format!("{request:x?}: {given:?}, but the state changed"));
-        }
-        if matches!(request, Request::LoadRights { .. }) && !self.same_but_rights(before) {
-            return Err(format!("{request:x?}: more than the rights changed"));
-        }
-        if given.status() == 0 && !self.as_helper_starts(before, request) {
-            return Err(format!("{request:x?}: not the starter's stack and counts"));
-        }
-        self.same_rights()
+        let same = difference.map_or(Ok(()), Err);
+        same.and_then(|()| self.check_tables(request, before, given.status()))
             .map_err(|words| format!("{request:x?}: {words}"))?;
         Ok(given)
+    }
+
+    /// The tables after a call with this status.
+    fn check_tables(&self, request: Request, before: &NewState, status: u64) -> Result<(), String> {
+        let keeps_state = status != 0 || request.keeps_state();
+        if keeps_state && self.given != *before {
+            return Err(format!("status {status}, but the state changed"));
+        }
+        if matches!(request, Request::LoadRights { .. }) && !self.same_but_rights(before) {
+            return Err("more than the rights changed".to_string());
+        }
+        if status == 0 && !self.as_left(before, request) {
+            return Err("not the tables that it leaves".to_string());
+        }
+        self.same_parts()
+    }
+
+    /// What every call leaves as the second implementation has it: the rights and the used bits.
+    fn same_parts(&self) -> Result<(), String> {
+        if !blocks::same_used(&self.given, &self.state) {
+            return Err("the used bits are not those of the made scopes".to_string());
+        }
+        self.same_rights()
     }
 
     /// The tables have the second implementation's rights.
@@ -124,9 +136,12 @@ impl Pair {
         self.given.words == before.words && self.given.bytes[..RIGHTS] == before.bytes[..RIGHTS]
     }
 
-    /// Whether the tables are those that an accepted start of a helper leaves, if that is the call.
-    fn as_helper_starts(&self, before: &NewState, request: Request) -> bool {
-        helpers::tables_after(before, request).is_none_or(|after| self.given == after)
+    /// Whether the tables are, to the last byte, those that an accepted start of a helper, make or
+    /// remove leaves, if that is the call.
+    fn as_left(&self, before: &NewState, request: Request) -> bool {
+        let by_helper = helpers::tables_after(before, request);
+        let after = by_helper.or_else(|| blocks::tables_after(before, request, &self.state));
+        after.is_none_or(|after| self.given == after)
     }
 
     /// A word of a buffer that the host writes itself, on both sides.

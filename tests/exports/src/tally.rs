@@ -7,12 +7,13 @@ use reference::calls::{Call, Op};
 use crate::calls::{Reply, Request};
 
 /// Each function with the statuses that it can give.
-const REACHABLE: [(&str, &[u64]); 17] = [
+const REACHABLE: [(&str, &[u64]); 18] = [
     ("set_up", &[0, 1]),
     ("start", &[0, 1, 2, 3, 4]),
     ("start_helper", &[0, 1, 2, 3, 4, 5]),
     ("end", &[0, 1, 2, 11]),
     ("make", &[0, 1, 2, 6, 7, 8]),
+    ("remove", &[0, 1, 2, 6, 20]),
     ("enter", &[0, 1, 2, 5, 6, 9, 10, 17]),
     ("exit", &[0, 1, 2, 11]),
     ("allocate", &[0, 1, 2, 5, 12]),
@@ -28,7 +29,7 @@ const REACHABLE: [(&str, &[u64]); 17] = [
 ];
 
 /// What the lists are meant to bring about beside the statuses.
-const SITUATIONS: [&str; 37] = [
+const SITUATIONS: [&str; 56] = [
     "a part of the permanent store",
     "a part of the scratch store",
     "a part of length 0 that is not refused",
@@ -66,7 +67,29 @@ const SITUATIONS: [&str; 37] = [
     "an ordinary helper in a scope",
     "a helper starts a helper",
     "the last entry of a scope is one that a helper received",
+    "a scope of whole blocks",
+    "a scope of a word more than whole blocks",
+    "a free run that is too short is passed over",
+    "a scope in front of another",
+    "a scope that has the last block",
+    "a scope that has block 1,023",
+    "used bits in several words",
+    "a scope made again at another place",
+    "a thread that may not enter a scope removes it",
+    "a scope of no words",
+    "enough free blocks, but not side by side",
+    "a size that would fit with the shorter rest",
+    "a size that wraps where it is rounded up",
+    "a removed scope is removed again",
+    "an open scope is removed by a thread outside it",
+    "a removed scope is entered",
+    "the last generation of a scope that was made again",
+    "an old handle of a scope that was made again",
+    "an old target of a scope that was made again",
 ];
+
+/// Whether a situation came about.
+pub type Note = (bool, &'static str);
 
 #[derive(Default)]
 pub struct Tally {
@@ -145,5 +168,6 @@ fn function_of(request: Request) -> &'static str {
         Op::Write { .. } => "write",
         Op::Read { .. } => "read",
         Op::StartHelper { .. } => "start_helper",
+        Op::Remove { .. } => "remove",
     }
 }

@@ -36,7 +36,8 @@ impl Buffers {
         Core::set_up(permanent, scratch, map, written, HEAP, IMMORTAL).expect("lengths that fit")
     }
 
-    /// Threads 0, 1 and 2 started, real-time, ordinary and no-heap; scopes 2 and 3 made, 8 words each.
+    /// Threads 0, 1 and 2 started, real-time, ordinary and no-heap; scopes 2 and 3 made, 8 words each,
+    /// in the first two of six blocks.
     pub fn begin(&mut self) -> Core<'_> {
         let mut core = self.set_up();
         core.start(thread(0), Kind::RealTime).unwrap();
@@ -58,4 +59,9 @@ pub fn area(number: u64) -> Area {
 
 pub fn handle(word: u64) -> Handle {
     Handle::from_word(word).expect("a word that is not null")
+}
+
+/// All lent words.
+pub fn words(core: &Core) -> [Vec<u64>; 4] {
+    [core.permanent(), core.scratch(), core.map(), core.written()].map(<[u64]>::to_vec)
 }
