@@ -122,6 +122,7 @@ pub static TABLE: &[Row] = &[
     row(0x09, "write", &[OBJECT, INDEX, WORD], None),
     row(0x0a, "read", &[OBJECT, INDEX], value("word ", Sort::Number)),
     row(0x0b, "start_helper", &[KIND, HELPER], None),
+    row(0x0c, "remove", &[AREA], None),
 ];
 
 /// The row of an op, with the numbers in its frame.

@@ -17,10 +17,10 @@ const WORDS: &[(Refusal, &str)] = &[
     ),
     (
         Refusal::Area,
-        "area above 63, or scope not made (make: outside 2 to 63)",
+        "area above 63, or scope not made (make: outside 2 to 63; remove: that, or not made)",
     ),
     (Refusal::Made, "scope already made"),
-    (Refusal::Size, "size 0, or above the unused scratch words"),
+    (Refusal::Size, "size 0, or no run of free blocks holds it"),
     (Refusal::StackFull, "stack has 32 entries"),
     (Refusal::Parent, "scope open with another parent"),
     (
@@ -50,6 +50,7 @@ const WORDS: &[(Refusal, &str)] = &[
         Refusal::Unwritten,
         "data word that nobody wrote since the object was made",
     ),
+    (Refusal::Open, "scope open"),
     (
         Refusal::Table,
         "not 36 digits, a digit other than 0 and 1, or A without U",

@@ -56,6 +56,7 @@ fn every_call() {
             "t1 start_helper 2 t15",
             "0b010000000000000002000f0000000000000000",
         ),
+        ("t1 remove 63", "0c010000000000000000003f0000000000000000"),
     ];
     for (line, frame) in rows {
         assert_eq!(frames(line), format!("{frame}\n"));
@@ -106,7 +107,8 @@ fn greatest_numbers_fit() {
 
 #[test]
 fn lines_that_are_no_call() {
-    let calls = "start, end, make, enter, exit, allocate, store, load, write, read, start_helper";
+    let calls =
+        "start, end, make, enter, exit, allocate, store, load, write, read, start_helper, remove";
     let rows = [
         ("0 exit", "`0` is no thread: t0, t1 and so on"),
         ("exit", "`exit` is no thread: t0, t1 and so on"),
@@ -134,6 +136,8 @@ fn lines_that_are_no_call() {
         ("t0 start_helper 2 t", "thread `` is no number"),
         ("t0 start_helper 2 tt1", "thread `t1` is no number"),
         ("t0 start_helper 2 t65536", "thread `65536` is above 65535"),
+        ("t0 remove", "remove takes area: 0 given"),
+        ("t0 remove 2 8", "remove takes area: 2 given"),
         ("t0 enter t2", "area `t2` is no number"),
         ("t0 enter two", "area `two` is no number"),
         ("t0 enter 0x", "area `0x` is no number"),

@@ -4,6 +4,8 @@ mod common;
 #[path = "common/xml.rs"]
 mod xml;
 
+use std::collections::BTreeMap;
+
 use common::{example, generated, List, EXAMPLES};
 use reference::calls::{Call, Op};
 use reference::rights::Kind;
@@ -121,7 +123,7 @@ fn helpers_and_their_stacks() {
             (Kind::RealTime, None, span_to_end(15))
         ]
     );
-    let openings = timeline.scopes[&2].openings.iter();
+    let openings = timeline.scopes[&2].openings();
     let spans: Vec<Span> = openings.map(|opening| opening.span).collect();
     assert_eq!(spans, [span(3, 13)]);
 }
@@ -173,7 +175,7 @@ type Opened = (u64, Option<u64>, Vec<(Span, u64)>);
 fn scopes_with_used_words_and_parents() {
     let timeline = timeline_of(&list_of(CALLS));
     let openings = |scope: u64| -> Vec<Opened> {
-        let openings = timeline.scopes[&scope].openings.iter();
+        let openings = timeline.scopes[&scope].openings();
         openings
             .map(|opening| {
                 (
@@ -189,8 +191,97 @@ fn scopes_with_used_words_and_parents() {
     let first = (1, Some(2), vec![(span(8, 10), 0)]);
     let second = (2, None, vec![(span_to_end(18), 0)]);
     assert_eq!(openings(3), [first, second]);
-    let sizes: Vec<u64> = timeline.scopes.values().map(|lane| lane.size).collect();
-    assert_eq!(sizes, [8, 4]);
+    assert_eq!(makings(&timeline, 2), [(8, 0, span_to_end(3))]);
+    assert_eq!(makings(&timeline, 3), [(4, 16, span_to_end(4))]);
+}
+
+const REMOVALS: &str = "\
+    t0 start 2
+    t0 make 2 40
+    t0 make 3 16
+    t0 enter 2
+    t0 allocate 0 3
+    t0 remove 2     # 6: refused, it is open
+    t0 exit
+    t0 remove 2
+    t0 enter 2      # 9: refused, it is not made
+    t0 make 4 8     # in the room of scope 2
+    t0 make 2 33    # behind scope 3
+    t0 enter 2
+    t0 exit
+    t0 remove 2
+    t0 remove 3
+    t0 make 2 100   # behind scope 4
+    t0 remove 2";
+
+/// A scope's makings: their sizes, their first words, how long they last.
+fn makings(timeline: &Timeline, scope: u64) -> Vec<(u64, u64, Span)> {
+    let makings = timeline.scopes[&scope].makings.iter();
+    makings
+        .map(|making| (making.size, making.start, making.span))
+        .collect()
+}
+
+#[test]
+fn scopes_made_removed_and_made_again() {
+    let timeline = timeline_of(&list_of(REMOVALS));
+    let changed = [
+        (40, 0, span(2, 8)),
+        (33, 64, span(11, 14)),
+        (100, 16, span(16, 17)),
+    ];
+    assert_eq!(makings(&timeline, 2), changed);
+    assert_eq!(makings(&timeline, 3), [(16, 48, span(3, 15))]);
+    assert_eq!(makings(&timeline, 4), [(8, 0, span_to_end(10))]);
+    let removals = |scope: u64| -> Vec<Span> { timeline.scopes[&scope].removals().collect() };
+    assert_eq!(removals(2), [span(8, 11), span(14, 16), span_to_end(17)]);
+    assert_eq!(removals(3), [span_to_end(15)]);
+    assert_eq!(removals(4), []);
+    let openings = timeline.scopes[&2].makings.iter();
+    let openings = openings.map(|making| making.openings.iter());
+    let generations: Vec<Vec<u64>> = openings
+        .map(|openings| openings.map(|opening| opening.generation).collect())
+        .collect();
+    assert_eq!(generations, [vec![1], vec![2], vec![]]);
+}
+
+/// What the accepted calls of a list make and remove: the sizes of each scope and how long they last.
+fn made_by_calls(list: &List) -> BTreeMap<u64, Vec<(u64, Span)>> {
+    let mut scopes: BTreeMap<u64, Vec<(u64, Span)>> = BTreeMap::new();
+    let exchanges = list.exchanges().into_iter().enumerate();
+    for (from, exchange) in exchanges.filter(|(_, exchange)| exchange.answer.is_accepted()) {
+        match exchange.call.map(|call| call.op) {
+            Some(Op::Make { area, size }) => {
+                let span = Span { from, to: None };
+                scopes.entry(area).or_default().push((size, span));
+            }
+            Some(Op::Remove { area }) => {
+                let made = scopes.get_mut(&area).and_then(|made| made.last_mut());
+                made.expect("a made scope").1.to = Some(from);
+            }
+            _ => {}
+        }
+    }
+    scopes
+}
+
+#[test]
+fn makings_of_generated_lists_are_those_of_the_accepted_calls() {
+    let (mut removed, mut again) = (0, 0);
+    for list in generated(1..100, 300) {
+        let timeline = timeline_of(&list);
+        let expected = made_by_calls(&list);
+        assert!(timeline.scopes.keys().eq(expected.keys()));
+        for (&scope, expected) in &expected {
+            let makings = makings(&timeline, scope).into_iter();
+            let makings: Vec<_> = makings.map(|(size, _, span)| (size, span)).collect();
+            assert_eq!(&makings, expected, "scope {scope}");
+            removed += timeline.scopes[&scope].removals().count();
+            again += makings.len() - 1;
+        }
+    }
+    assert!(removed > 100, "{removed} removals");
+    assert!(again > 100, "{again} scopes made again");
 }
 
 #[test]
@@ -222,9 +313,9 @@ fn what_the_picture_says() {
         ">thread 0<",
         ">thread 1<",
         ">scope 2<",
-        ">8 words<",
+        ">8 words from 0<",
         ">scope 3<",
-        ">4 words<",
+        ">4 words from 16<",
         ">immortal<",
         ">no-heap<",
         ">generation 1, no parent<",
@@ -242,12 +333,8 @@ fn what_the_picture_says() {
 #[test]
 fn links_from_starters_to_helpers() {
     let picture = list_of(HELPERS).picture();
-    let column = |call: usize| {
-        let hint = line_with(&picture, &format!("<title>{call}: "));
-        attribute(hint, "x") + attribute(hint, "width") / 2
-    };
     for (call, helper) in [(5, 0), (11, 3)] {
-        let x = column(call);
+        let x = column(&picture, call);
         let mark = line_with(&picture, &format!("<circle cx=\"{x}\" "));
         let y = attribute(mark, "cy");
         let dot = format!("<circle cx=\"{x}\" cy=\"{y}\" r=\"3\"");
@@ -262,6 +349,49 @@ fn links_from_starters_to_helpers() {
     let words = ">from the starter (dot) to the helper<";
     assert!(picture.contains(words));
     assert!(!list_of(CALLS).picture().contains(words));
+}
+
+/// Each making is a bar with its size, and each removal a cross at the end of one.
+#[test]
+fn bars_of_makings_and_crosses_of_removals() {
+    let picture = list_of(REMOVALS).picture();
+    let lane = |scope: u64| attribute(line_with(&picture, &format!(">scope {scope}<")), "y") - 10;
+    let bars = [(2, 2, 8), (2, 11, 14), (2, 16, 17), (3, 3, 15)];
+    for (scope, made, removed) in bars {
+        let (x, end) = (column(&picture, made), column(&picture, removed));
+        let (y, width) = (lane(scope), end - x);
+        let bar = format!("<rect x=\"{x}\" y=\"{y}\" width=\"{width}\" height=\"12\"");
+        assert!(picture.contains(&bar), "{bar} in {picture}");
+        let (left, right, top, bottom) = (end - 4, end + 4, y + 2, y + 10);
+        let cross = format!("M{left} {top}L{right} {bottom}M{left} {bottom}L{right} {top}");
+        assert!(picture.contains(&cross), "{cross} in {picture}");
+    }
+    let counts = [
+        ("<path ", bars.len() + 1),
+        (">scope removed<", 1),
+        (">not made<", 2),
+        (">40 words from 0<", 1),
+        (">33 words<", 1),
+        (">100<", 1),
+        (">16 words from 48<", 1),
+        (">8 words from 0<", 1),
+        ("<title>6: t0 remove 2 → refused 20: scope open</title>", 1),
+        ("<title>8: t0 remove 2 → accepted</title>", 1),
+    ];
+    for (words, count) in counts {
+        let found = picture.matches(words).count();
+        assert_eq!(found, count, "{words} in {picture}");
+    }
+    let other = list_of(CALLS).picture();
+    for words in ["<path ", ">scope removed<", ">not made<"] {
+        assert!(!other.contains(words), "{words} in {other}");
+    }
+}
+
+/// The middle of a call's column.
+fn column(picture: &str, call: usize) -> usize {
+    let hint = line_with(picture, &format!("<title>{call}: "));
+    attribute(hint, "x") + attribute(hint, "width") / 2
 }
 
 /// The line of a picture that has these words.

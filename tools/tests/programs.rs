@@ -80,7 +80,7 @@ fn assemble_tells_each_line_and_writes_nothing() {
     let told = "\
         line 2: enter takes area: 0 given\n\
         line 4: `leave` is no call: start, end, make, enter, exit, allocate, store, load, write, read, \
-        start_helper\n";
+        start_helper, remove\n";
     let output = run(ASSEMBLE, &[&calls]);
     assert_refused(&output, 1, told);
 }

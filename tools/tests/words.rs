@@ -73,6 +73,7 @@ fn every_op_and_its_value() {
             0,
             "t7 start_helper 2 (real-time) as t1 → accepted",
         ),
+        (Op::Remove { area }, 0, "t7 remove 2 → accepted"),
     ];
     for (op, value, expected) in rows {
         assert_eq!(accepted(op, value), expected);
@@ -136,10 +137,10 @@ fn every_refusal() {
         ),
         (
             6,
-            "area above 63, or scope not made (make: outside 2 to 63)",
+            "area above 63, or scope not made (make: outside 2 to 63; remove: that, or not made)",
         ),
         (7, "scope already made"),
-        (8, "size 0, or above the unused scratch words"),
+        (8, "size 0, or no run of free blocks holds it"),
         (9, "stack has 32 entries"),
         (10, "scope open with another parent"),
         (11, "exit with an empty stack, or end with entries"),
@@ -151,6 +152,7 @@ fn every_refusal() {
         (17, "scope not open, its generation the last one"),
         (18, "the line is no frame"),
         (19, "data word that nobody wrote since the object was made"),
+        (20, "scope open"),
         (
             23,
             "not 36 digits, a digit other than 0 and 1, or A without U",

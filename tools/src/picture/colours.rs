@@ -16,6 +16,7 @@ pub const REFUSED: &str = "#b3261e";
 pub const ON_REFUSED: &str = "#ffffff";
 pub const PARENT: &str = "#555555";
 pub const STARTER: &str = "#00695c";
+pub const REMOVED: &str = "#222222";
 
 /// Hues that are told apart easily, and the lightness of their rounds: where there are more scopes
 /// than hues, the hues come again, a little turned.

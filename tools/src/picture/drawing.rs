@@ -2,10 +2,10 @@
 
 use super::colours::{self, Palette};
 use super::glyphs::{self, bar, font, Link};
-use super::layout::{Lanes, Scale, NUMBERS, TITLE};
+use super::layout::{Lanes, Scale, Strip, NUMBERS, TITLE};
 use super::legend;
-use super::svg::{Anchor, Font, Svg};
-use super::timeline::Timeline;
+use super::svg::{Anchor, Font, Rectangle, Svg};
+use super::timeline::{Span, Timeline};
 use crate::answers::Exchange;
 use crate::{text, words};
 
@@ -94,6 +94,12 @@ impl Drawing {
     /// A text left of a lane.
     pub fn beside(&mut self, y: usize, font: Font, text: &str) {
         self.svg.text((self.scale.start() - 8, y), font, text);
+    }
+
+    /// The bar of a life in its lane.
+    pub fn life_bar(&self, lane: Strip, span: Span) -> Rectangle {
+        let Strip { top, height } = lane.life();
+        bar(self.scale.ends(span), top, height)
     }
 
     /// Lanes and their links: the lines lie behind what is drawn in the lanes, the dots over it.

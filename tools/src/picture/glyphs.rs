@@ -13,6 +13,8 @@ const STATUS: Font = Font {
 pub const MARK: usize = 14;
 /// The radius of a link's dot.
 pub const LINK_DOT: usize = 3;
+/// How far a removal's cross reaches from its middle.
+pub const CROSS: usize = 4;
 /// A label's height, its base line in its bar, and the room on its left.
 pub const LABEL_HEIGHT: usize = 13;
 const BASE: usize = 10;
@@ -49,9 +51,30 @@ pub fn label(svg: &mut Svg, bar: Rectangle, words: &str) {
     }
 }
 
+/// The first of some labels that fits into a room. No line is seen behind it, but one at the room's
+/// left side is.
+pub fn label_over(svg: &mut Svg, room: Rectangle, ground: &str, labels: &[String]) {
+    let mut fitting = labels.iter();
+    if let Some(words) = fitting.find(|words| label_width(words) <= room.width) {
+        let sides = (room.x + 1, room.x + label_width(words));
+        svg.rectangle(bar(sides, room.y, room.height), ground, None);
+        label(svg, room, words);
+    }
+}
+
 /// An area's bar.
 pub fn area(svg: &mut Svg, bar: Rectangle, fill: &str) {
     svg.rectangle(bar, fill, Some(colours::EDGE));
+}
+
+/// The bar of a thread while it is started, of a scope while it is made.
+pub fn life(svg: &mut Svg, bar: Rectangle) {
+    svg.rectangle(bar, colours::LIFE, None);
+}
+
+/// The end of a scope's life.
+pub fn removed(svg: &mut Svg, at: (usize, usize)) {
+    svg.cross(at, CROSS, colours::REMOVED);
 }
 
 /// An accepted call.

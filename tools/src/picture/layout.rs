@@ -2,7 +2,7 @@
 
 use std::collections::BTreeMap;
 
-use super::timeline::{Span, ThreadLane, Timeline};
+use super::timeline::{ScopeLane, Span, ThreadLane, Timeline};
 
 /// The names of the lanes stand left of the columns.
 const LEFT: usize = 92;
@@ -19,7 +19,7 @@ const BETWEEN: usize = 8;
 pub const MARKS: usize = 18;
 pub const ENTRY: usize = 15;
 pub const LIFE: usize = 14;
-/// The rows of a scope's lane: its generation and parent, its words.
+/// The rows of a scope's lane: its generation and parent, its words, its life from making to removal.
 pub const HEADING: usize = 14;
 pub const WORDS: usize = 36;
 
@@ -123,6 +123,14 @@ impl Strip {
     pub fn bottom(self) -> usize {
         self.top + self.height
     }
+
+    /// The part of a lane that shows its life.
+    pub fn life(self) -> Strip {
+        Strip {
+            top: self.bottom() - LIFE + 1,
+            height: LIFE - 2,
+        }
+    }
 }
 
 /// The lanes by their threads and scopes, and the one of lines that are no frame.
@@ -150,8 +158,8 @@ impl Lanes {
         let threads = timeline.threads.iter();
         let threads = threads.map(|(&thread, lane)| (thread, strip(thread_height(lane))));
         let threads = threads.collect();
-        let scopes = timeline.scopes.keys();
-        let scopes = scopes.map(|&scope| (scope, strip(HEADING + WORDS)));
+        let scopes = timeline.scopes.iter();
+        let scopes = scopes.map(|(&scope, lane)| (scope, strip(scope_height(lane))));
         let scopes = scopes.collect();
         Lanes {
             no_frames,
@@ -170,4 +178,12 @@ impl Lanes {
 
 fn thread_height(lane: &ThreadLane) -> usize {
     MARKS + lane.height() * ENTRY + LIFE
+}
+
+/// A scope that is never open has its life alone.
+fn scope_height(lane: &ScopeLane) -> usize {
+    match lane.openings().next() {
+        Some(_) => HEADING + WORDS + LIFE,
+        None => LIFE,
+    }
 }

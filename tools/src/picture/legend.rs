@@ -21,6 +21,8 @@ enum Glyph {
     Accepted,
     Refused(u64),
     Link(&'static str),
+    Made,
+    Removed,
 }
 
 struct Item {
@@ -68,7 +70,8 @@ impl Place {
     }
 }
 
-/// The areas that are ever entered, an accepted call, the lines to a starter and to a parent.
+/// The areas that are ever entered, an accepted call, the lines to a starter and to a parent, a scope
+/// that is made, and its removal.
 fn lane_items(timeline: &Timeline) -> Vec<Item> {
     let entries = timeline.threads.values().flat_map(|lane| &lane.entries);
     let areas: BTreeSet<u64> = entries.map(|entry| entry.area).collect();
@@ -83,6 +86,13 @@ fn lane_items(timeline: &Timeline) -> Vec<Item> {
     if timeline.has_parents() {
         let glyph = Glyph::Link(colours::PARENT);
         items.push(item(glyph, "from the parent (dot) to the scope"));
+    }
+    if !timeline.scopes.is_empty() {
+        let words = "scope made: its size, and from which word of scratch on";
+        items.push(item(Glyph::Made, words));
+    }
+    if timeline.has_removals() {
+        items.push(item(Glyph::Removed, "scope removed"));
     }
     items
 }
@@ -132,6 +142,11 @@ impl Item {
                 let link = Link { end, dot, colour };
                 glyphs::link_line(svg, &link);
                 glyphs::link_dot(svg, &link);
+            }
+            Glyph::Made => glyphs::life(svg, bar((x, x + GLYPH), y + 1, MARK - 2)),
+            Glyph::Removed => {
+                glyphs::life(svg, bar((x, middle.0), y + 1, MARK - 2));
+                glyphs::removed(svg, middle);
             }
         }
         let room = bar((x + GLYPH, x + self.width()), y + 1, MARK);

@@ -1,11 +1,12 @@
 //! A list as a picture: time to the right, a lane for each thread with its stack of areas, a lane for
-//! each scope that is ever open with its used words.
+//! each scope that is ever made with its used words and its size.
 
 mod colours;
 mod drawing;
 mod glyphs;
 mod layout;
 mod legend;
+mod makings;
 mod scopes;
 mod svg;
 mod threads;

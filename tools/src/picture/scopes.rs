@@ -2,17 +2,18 @@
 
 use super::colours;
 use super::drawing::{Drawing, NAME};
-use super::glyphs::{self, bar, font, label_width, Link, LABEL_HEIGHT, LINK_DOT};
+use super::glyphs::{self, bar, Link, LABEL_HEIGHT, LINK_DOT};
 use super::layout::{Strip, HEADING, WORDS};
-use super::svg::{Anchor, Font, Rectangle};
+use super::svg::Rectangle;
 use super::timeline::{Opening, ScopeLane, Timeline};
-use crate::words;
-
-const SIZE: Font = font(10, colours::FAINT_TEXT, Anchor::End);
 
 impl Drawing {
-    /// A lane for each scope. The lines to the parents lie behind the words of the scopes between.
+    /// A lane for each scope. The lines to the parents lie over the bars of the makings, behind the
+    /// words of the scopes between.
     pub fn scopes(&mut self, timeline: &Timeline) {
+        for (scope, lane) in &timeline.scopes {
+            self.makings(self.lanes.scopes[scope], lane);
+        }
         let parents = self.parents(timeline);
         self.linked(&parents, |drawing| {
             for (&scope, lane) in &timeline.scopes {
@@ -25,7 +26,7 @@ impl Drawing {
     fn parents(&self, timeline: &Timeline) -> Vec<Link> {
         let mut links = Vec::new();
         for (&scope, lane) in &timeline.scopes {
-            let openings = lane.openings.iter();
+            let openings = lane.openings();
             links.extend(openings.filter_map(|opening| self.parent(scope, opening)));
         }
         links
@@ -50,12 +51,13 @@ impl Drawing {
 
     fn scope(&mut self, scope: u64, lane: &ScopeLane) {
         let strip = self.lanes.scopes[&scope];
-        let middle = strip.bottom() - WORDS / 2;
-        self.beside(middle, NAME, &format!("scope {scope}"));
-        self.beside(middle + 13, SIZE, &words::counted(lane.size, "word"));
-        for opening in &lane.openings {
-            self.opening(scope, strip, lane.size, opening);
+        self.beside(strip.bottom() - 3, NAME, &format!("scope {scope}"));
+        for making in &lane.makings {
+            for opening in &making.openings {
+                self.opening(scope, strip, making.size, opening);
+            }
         }
+        self.sizes_and_removals(strip, lane);
     }
 
     fn opening(&mut self, scope: u64, strip: Strip, size: u64, opening: &Opening) {
@@ -85,14 +87,7 @@ impl Drawing {
             None => "no parent".into(),
         };
         let whole = format!("generation {}, {parent}", opening.generation);
-        let fitting = [whole, parent].into_iter();
-        let mut fitting = fitting.filter(|words| label_width(words) <= room.width);
-        if let Some(words) = fitting.next() {
-            let sides = (room.x + 1, room.x + label_width(&words));
-            let ground = bar(sides, room.y, room.height);
-            self.svg.rectangle(ground, colours::LANE, None);
-            glyphs::label(&mut self.svg, room, &words);
-        }
+        glyphs::label_over(&mut self.svg, room, colours::LANE, &[whole, parent]);
     }
 }
 

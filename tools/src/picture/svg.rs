@@ -92,6 +92,16 @@ impl Svg {
         ));
     }
 
+    /// Two strokes that cross, as long to each side as its reach.
+    pub fn cross(&mut self, (x, y): (usize, usize), reach: usize, colour: &str) {
+        let (left, right) = (x - reach, x + reach);
+        let (top, bottom) = (y - reach, y + reach);
+        self.add(&format!(
+            "<path d=\"M{left} {top}L{right} {bottom}M{left} {bottom}L{right} {top}\" \
+             stroke=\"{colour}\" stroke-width=\"2\"/>"
+        ));
+    }
+
     /// A text on its base line.
     pub fn text(&mut self, at: (usize, usize), font: Font, text: &str) {
         let place = format!("x=\"{}\" y=\"{}\"", at.0, at.1);

@@ -33,7 +33,7 @@ impl Drawing {
     fn starter(&self, helper: u64, life: &Life) -> Option<Link> {
         let x = self.scale.middle(life.span.from);
         let call = marks_middle(self.lanes.threads[&life.starter?]);
-        let life = life_strip(self.lanes.threads[&helper]);
+        let life = self.lanes.threads[&helper].life();
         let near = if call < life.top {
             life.top
         } else {
@@ -67,9 +67,8 @@ impl Drawing {
 
     /// A thread's kind while it is started.
     fn life(&mut self, strip: Strip, life: &Life) {
-        let Strip { top, height } = life_strip(strip);
-        let bar = bar(self.scale.ends(life.span), top, height);
-        self.svg.rectangle(bar, colours::LIFE, None);
+        let bar = self.life_bar(strip, life.span);
+        glyphs::life(&mut self.svg, bar);
         glyphs::label(&mut self.svg, bar, words::of_kind(life.kind));
     }
 
@@ -95,12 +94,4 @@ impl Drawing {
 /// The height at which a lane's calls are marked.
 fn marks_middle(lane: Strip) -> usize {
     lane.top + MARKS / 2
-}
-
-/// The part of a thread's lane that shows its life.
-fn life_strip(lane: Strip) -> Strip {
-    Strip {
-        top: lane.bottom() - LIFE + 1,
-        height: LIFE - 2,
-    }
 }

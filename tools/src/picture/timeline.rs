@@ -1,5 +1,5 @@
-//! What happened over a list: the threads with their stacks, the scopes with their used words, and
-//! the refused calls, each by the columns that it lasts.
+//! What happened over a list: the threads with their stacks, the scopes with their makings and used
+//! words, and the refused calls, each by the columns that it lasts.
 //!
 //! The second implementation runs the calls beside the answers, and what changed in its state from
 //! call to call is the timeline. Where an answer is another than its own, there is no timeline.
@@ -63,10 +63,18 @@ pub struct Opening {
     pub used: Vec<(usize, u64)>,
 }
 
+/// A scope from its making to its removal: its size, its first word in scratch, its openings.
 #[derive(Debug)]
-pub struct ScopeLane {
+pub struct Making {
     pub size: u64,
+    pub start: u64,
+    pub span: Span,
     pub openings: Vec<Opening>,
+}
+
+#[derive(Debug, Default)]
+pub struct ScopeLane {
+    pub makings: Vec<Making>,
 }
 
 #[derive(Debug, Default)]
@@ -74,7 +82,7 @@ pub struct Timeline {
     pub columns: usize,
     /// The threads that occur, as callers or by the state.
     pub threads: BTreeMap<u64, ThreadLane>,
-    /// The scopes that are ever open.
+    /// The scopes that are ever made.
     pub scopes: BTreeMap<u64, ScopeLane>,
     /// The lines that are no frame.
     pub no_frames: Vec<Mark>,
@@ -112,7 +120,8 @@ impl Timeline {
             self.note_stack(thread, before, after);
         }
         for scope in FIRST_SCOPE..AREAS {
-            self.note_scope(scope, before.area(scope), after.area(scope));
+            self.note_making(scope, before, after);
+            self.note_opening(scope, before.area(scope), after.area(scope));
         }
         self.columns += 1;
     }
@@ -176,7 +185,38 @@ impl Timeline {
         }
     }
 
-    fn note_scope(&mut self, scope: u64, before: &Area, after: &Area) {
+    fn note_making(&mut self, scope: u64, before: &State, after: &State) {
+        match (before.area(scope).made, after.area(scope).made) {
+            (false, true) => self.make_scope(scope, after),
+            (true, false) => self.remove_scope(scope),
+            _ => {}
+        }
+    }
+
+    fn make_scope(&mut self, scope: u64, state: &State) {
+        let area = state.area(scope);
+        let making = Making {
+            size: area.size,
+            start: area.first - state.lengths.permanent,
+            span: self.open_span(),
+            openings: Vec::new(),
+        };
+        self.scopes.entry(scope).or_default().makings.push(making);
+    }
+
+    /// The making that a scope is in.
+    fn last_making(&mut self, scope: u64) -> &mut Making {
+        let lane = self.scopes.get_mut(&scope);
+        let last = lane.and_then(|lane| lane.makings.last_mut());
+        last.expect("a scope that is there was made")
+    }
+
+    fn remove_scope(&mut self, scope: u64) {
+        let column = self.columns;
+        self.last_making(scope).span.to = Some(column);
+    }
+
+    fn note_opening(&mut self, scope: u64, before: &Area, after: &Area) {
         if before == after {
             return;
         }
@@ -196,17 +236,12 @@ impl Timeline {
             span: self.open_span(),
             used: vec![(self.columns, area.used)],
         };
-        let size = area.size;
-        let openings = Vec::new();
-        let lane = self.scopes.entry(scope);
-        let lane = lane.or_insert(ScopeLane { size, openings });
-        lane.openings.push(opening);
+        self.last_making(scope).openings.push(opening);
     }
 
     /// The opening that a scope is in.
     fn last_opening(&mut self, scope: u64) -> &mut Opening {
-        let lane = self.scopes.get_mut(&scope);
-        let last = lane.and_then(|lane| lane.openings.last_mut());
+        let last = self.last_making(scope).openings.last_mut();
         last.expect("an open scope was opened")
     }
 
@@ -239,8 +274,30 @@ impl Timeline {
 
     /// Whether a scope ever has a parent.
     pub fn has_parents(&self) -> bool {
-        let mut openings = self.scopes.values().flat_map(|lane| &lane.openings);
+        let mut openings = self.scopes.values().flat_map(ScopeLane::openings);
         openings.any(|opening| opening.parent.is_some())
+    }
+
+    /// Whether a scope is ever removed.
+    pub fn has_removals(&self) -> bool {
+        let mut removals = self.scopes.values().flat_map(ScopeLane::removals);
+        removals.next().is_some()
+    }
+}
+
+impl ScopeLane {
+    pub fn openings(&self) -> impl Iterator<Item = &Opening> {
+        self.makings.iter().flat_map(|making| &making.openings)
+    }
+
+    /// From each removal to the next making, or to the end of the list.
+    pub fn removals(&self) -> impl Iterator<Item = Span> + '_ {
+        let makings = self.makings.iter().skip(1);
+        let ends = makings.map(|making| Some(making.span.from)).chain([None]);
+        let removed = self.makings.iter().map(|making| making.span.to);
+        removed
+            .zip(ends)
+            .filter_map(|(from, to)| Some(Span { from: from?, to }))
     }
 }
 

@@ -6,12 +6,13 @@ use std::path::PathBuf;
 use reference::{frame, generator};
 
 /// The lists in examples/, each with its text, answers and picture.
-pub const EXAMPLES: [&str; 5] = [
+pub const EXAMPLES: [&str; 6] = [
     "sample",
     "emptied-parent",
     "never-entered",
     "outlived-display",
     "helper-thread",
+    "removed-scope",
 ];
 
 /// A file of the repository.
