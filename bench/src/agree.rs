@@ -1,6 +1,7 @@
 //! Before anything is measured: tuned and plain Rust answer as the exported functions do on random calls,
 //! plain Rust by each of its rules. What is compared with the proved core is no other core.
 
+use std::collections::BTreeMap;
 use std::fmt::Debug;
 
 use in_line::{check_by_display, check_by_scan, check_by_walk};
@@ -8,47 +9,64 @@ use reference::random::Random;
 use reference::rights::DIGITS;
 use reference::texts::{self, Text};
 
-use crate::machine::{Answer, Core, InLine, Machine, Plain, Scan, Tuned, Unchecked, View, Walk};
+use crate::machine::{
+    Answer, Core, InLine, Machine, Plain, Scan, Tuned, Unchecked, View, Walk, BLOCK, SCRATCH,
+};
 
 const LISTS: u64 = 100;
 const CALLS: u64 = 2_000;
 /// Most loads before the threads start, and how many are tried after it.
 const LOADS: u64 = 3;
+/// The scratch store of every second list: 37 blocks and a shorter rest.
+const SHORT: usize = 600;
 /// The kinds of the threads that are started first, and how many scopes each of them makes.
 const KINDS: [u64; 4] = [2, 2, 1, 3];
 const SCOPES: u64 = 4;
+/// The areas that calls name mostly; most scopes have at most this part of the scratch store, which so holds all of them
+/// now and then.
+const AREAS: usize = 20;
+const PART: u64 = 10;
 /// The numbers that threads may have and the least that none has; the entries of a full stack.
 const NUMBERS: usize = 17;
 const FULL: usize = 32;
-/// One more than the highest status that the start of a helper or an end gives.
-const STATUSES: usize = 12;
+/// One more than the highest status that is counted, the refusal of a scope that is open.
+const STATUSES: usize = 21;
 
 /// Panics where a side differs; else says what was compared.
 pub fn check() -> String {
     let mut seen = Seen::default();
     for seed in 0..LISTS {
-        run(seed, &mut seen);
+        match seed % 2 {
+            0 => run::<SHORT>(seed, &mut seen),
+            _ => run::<SCRATCH>(seed, &mut seen),
+        }
     }
     seen.check();
     let calls = LISTS * CALLS;
     let [near, far] = seen.stores.map(|[no, yes]| no + yes);
     let ([helpers, ..], full) = (seen.helpers, seen.full);
+    let ([made, ..], [removed, ..], fragmented) = (seen.makes, seen.removals, seen.fragmented);
     format!(
         "{calls} random calls answered alike; {near} stores were decided by display, walk and scan, \
-         {far} by display and walk; {helpers} helpers were started, {full} of them with a full stack"
+         {far} by display and walk; {helpers} helpers were started, {full} of them with a full stack; \
+         {made} scopes were made, {removed} removed, {fragmented} refused although enough blocks were free in all"
     )
 }
 
 /// How many stores the assignment rule refused and accepted: between areas on the thread's own stack,
-/// and others. How many reads were of a word that nobody wrote, and of a written one. How many starts of helpers and
-/// ends gave each status, and how many helpers got a full stack.
+/// and others. How many reads were of a word that nobody wrote, and of a written one. How many starts of helpers, ends,
+/// makes and removals gave each status, how many helpers got a full stack, and how many scopes no run of free blocks
+/// held although there were enough of them in all.
 #[derive(Default)]
 struct Seen {
     stores: [[u64; 2]; 2],
     reads: [u64; 2],
     helpers: [u64; STATUSES],
     ends: [u64; STATUSES],
+    makes: [u64; STATUSES],
+    removals: [u64; STATUSES],
     full: u64,
+    fragmented: u64,
 }
 
 impl Seen {
@@ -61,13 +79,18 @@ impl Seen {
         assert!(!helpers.contains(&0), "each start of a helper came up");
         let ends = [0, 2, 11].map(|status| self.ends[status]);
         assert!(!ends.contains(&0), "each kind of end came up");
+        let makes = [0, 2, 6, 7, 8].map(|status| self.makes[status]);
+        assert!(!makes.contains(&0), "each kind of make came up");
+        let removals = [0, 2, 6, 20].map(|status| self.removals[status]);
+        assert!(!removals.contains(&0), "each kind of removal came up");
         assert!(self.full > 0, "a helper got a full stack");
+        assert!(self.fragmented > 0, "free blocks lay too far apart");
     }
 }
 
-fn run(seed: u64, seen: &mut Seen) {
+fn run<const S: usize>(seed: u64, seen: &mut Seen) {
     let mut random = Random::new(seed);
-    let mut sides = Sides::set_up(seed);
+    let mut sides = Sides::<S>::set_up(seed);
     for _ in 0..random.below(LOADS + 1) {
         sides.load_rights(&texts::any(&mut random));
     }
@@ -77,8 +100,8 @@ fn run(seed: u64, seen: &mut Seen) {
     for (thread, kind) in (0..).zip(KINDS) {
         sides.call(|machine| machine.start(thread, kind));
         for scope in 0..SCOPES {
-            let (area, size) = (2 + thread * SCOPES + scope, random.between(1, 60));
-            sides.call(|machine| machine.make(thread, area, size));
+            let (area, size) = (2 + thread * SCOPES + scope, some_size::<S>(&mut random));
+            sides.make(thread, area, size, seen);
         }
     }
     for _ in 0..LOADS {
@@ -101,14 +124,19 @@ fn no_rights(kind: usize) -> Text {
     Text::new(&digits)
 }
 
-fn any_call(random: &mut Random, sides: &mut Sides, handles: &[u64], seen: &mut Seen) -> Answer {
+fn any_call<const S: usize>(
+    random: &mut Random,
+    sides: &mut Sides<S>,
+    handles: &[u64],
+    seen: &mut Seen,
+) -> Answer {
     let t = random.below(NUMBERS as u64);
     let recent = random.below(handles.len().min(30) as u64) as usize;
     let object = handles[handles.len() - 1 - recent];
     let other = handles[random.below(handles.len() as u64) as usize];
     let index = random.below(4);
-    match random.below(24) {
-        0..=2 => sides.enter(t, random.below(20)),
+    match random.below(28) {
+        0..=2 => sides.enter(t, random.below(AREAS as u64)),
         3..=4 => sides.exit(t),
         5..=7 => {
             let (slots, data) = (random.below(4), random.below(70) / (1 + random.below(70)));
@@ -131,6 +159,11 @@ fn any_call(random: &mut Random, sides: &mut Sides, handles: &[u64], seen: &mut 
             let (t, helper) = (any_number(random, NUMBERS), any_number(random, NUMBERS));
             sides.start_helper(t, any_number(random, 5), helper, seen)
         }
+        23..=25 => {
+            let area = any_number(random, AREAS);
+            sides.make(t, area, any_size::<S>(random), seen)
+        }
+        26 => sides.remove(t, any_number(random, AREAS), seen),
         _ => match random.below(10) {
             0 => sides.fill(t, random),
             1..=3 => sides.leave(t, seen),
@@ -148,22 +181,40 @@ fn any_number(random: &mut Random, bound: usize) -> u64 {
     number | 1 << random.between(4, 63)
 }
 
-/// All sides, which are given the same calls.
-struct Sides {
-    seed: u64,
-    core: Core,
-    tuned: Tuned,
-    unchecked: Unchecked,
-    plain: Plain,
-    in_line: InLine,
-    walk: Walk,
-    scan: Scan,
-    /// The areas that each thread stands in.
-    rows: [Vec<u64>; NUMBERS],
+fn some_size<const S: usize>(random: &mut Random) -> u64 {
+    random.between(1, S as u64 / PART)
 }
 
-impl Sides {
-    fn set_up(seed: u64) -> Sides {
+/// Mostly a size that may fit, often whole blocks or a word more; also 0 and the greatest numbers.
+fn any_size<const S: usize>(random: &mut Random) -> u64 {
+    let size = some_size::<S>(random);
+    match random.below(20) {
+        0 => 0,
+        1 => u64::MAX - random.below(2 * BLOCK),
+        2 => random.between(1, S as u64 + 1),
+        3..=10 => size.next_multiple_of(BLOCK) + random.below(2),
+        _ => size,
+    }
+}
+
+/// All sides, which are given the same calls and are lent a scratch store of S words.
+struct Sides<const S: usize> {
+    seed: u64,
+    core: Core<S>,
+    tuned: Tuned<S>,
+    unchecked: Unchecked<S>,
+    plain: Plain<S>,
+    in_line: InLine<S>,
+    walk: Walk<S>,
+    scan: Scan<S>,
+    /// The areas that each thread stands in.
+    rows: [Vec<u64>; NUMBERS],
+    /// The blocks of each made scope.
+    blocks: BTreeMap<u64, u64>,
+}
+
+impl<const S: usize> Sides<S> {
+    fn set_up(seed: u64) -> Sides<S> {
         Sides {
             seed,
             core: Core::set_up(),
@@ -174,6 +225,7 @@ impl Sides {
             walk: Walk::set_up(),
             scan: Scan::set_up(),
             rows: Default::default(),
+            blocks: BTreeMap::new(),
         }
     }
 
@@ -232,6 +284,31 @@ impl Sides {
 
     fn load_rights(&mut self, text: &Text) {
         self.call(|machine| machine.load_rights(text.bytes()));
+    }
+
+    fn make(&mut self, t: u64, area: u64, size: u64, seen: &mut Seen) -> Answer {
+        let answer = self.call(|machine| machine.make(t, area, size));
+        let blocks = size.div_ceil(BLOCK);
+        match answer.status {
+            0 => _ = self.blocks.insert(area, blocks),
+            8 => seen.fragmented += u64::from(size > 0 && blocks <= self.free_blocks()),
+            _ => {}
+        }
+        seen.makes[answer.status as usize] += 1;
+        answer
+    }
+
+    fn free_blocks(&self) -> u64 {
+        S as u64 / BLOCK - self.blocks.values().sum::<u64>()
+    }
+
+    fn remove(&mut self, t: u64, area: u64, seen: &mut Seen) -> Answer {
+        let answer = self.call(|machine| machine.remove(t, area));
+        if answer.status == 0 {
+            self.blocks.remove(&area);
+        }
+        seen.removals[answer.status as usize] += 1;
+        answer
     }
 
     fn enter(&mut self, t: u64, area: u64) -> Answer {

@@ -1,7 +1,7 @@
 //! The reference check by nesting distance: whole stores on a stack of 32 scopes, and the rules alone.
 
 use crate::machine::{Core, InLine, Machine, Scan, Walk};
-use crate::measure::Loop;
+use crate::measure::{Line, Loop};
 use crate::runs::{spread, Times};
 use crate::scenes::Nest;
 
@@ -27,16 +27,16 @@ pub struct Rules {
     pub scan: f64,
 }
 
-pub fn store_loops() -> Vec<Vec<Loop>> {
-    let loops = |&distance: &u64| {
-        vec![
+pub fn store_lines() -> Vec<Line> {
+    let line = |&distance: &u64| {
+        Line::of_short_calls(vec![
             store_loop::<Core>(distance),
             store_loop::<InLine>(distance),
             store_loop::<Walk>(distance),
             store_loop::<Scan>(distance),
-        ]
+        ])
     };
-    DISTANCES.iter().map(loops).collect()
+    DISTANCES.iter().map(line).collect()
 }
 
 fn store_loop<M: Machine + 'static>(distance: u64) -> Loop {
@@ -44,15 +44,15 @@ fn store_loop<M: Machine + 'static>(distance: u64) -> Loop {
     Box::new(move |calls| nest.store(calls, distance))
 }
 
-pub fn rule_loops() -> Vec<Vec<Loop>> {
-    let loops = |&distance: &u64| {
-        vec![
+pub fn rule_lines() -> Vec<Line> {
+    let line = |&distance: &u64| {
+        Line::of_short_calls(vec![
             rule_loop(distance, in_line::check_by_display),
             rule_loop(distance, in_line::check_by_walk),
             rule_loop(distance, in_line::check_by_scan),
-        ]
+        ])
     };
-    DISTANCES.iter().map(loops).collect()
+    DISTANCES.iter().map(line).collect()
 }
 
 fn rule_loop(distance: u64, rule: in_line::Rule) -> Loop {
@@ -60,7 +60,7 @@ fn rule_loop(distance: u64, rule: in_line::Rule) -> Loop {
     Box::new(move |calls| nest.check(calls, distance, rule))
 }
 
-/// The middle times of all runs, as `store_loops` has the sides.
+/// The middle times of all runs, as `store_lines` has the sides.
 pub fn checks(runs: &[Times]) -> Vec<Check> {
     let check = |(place, &distance): (usize, &u64)| {
         let middle = |side: usize| spread(runs, |times| times.stores[place][side]).middle;
@@ -75,7 +75,7 @@ pub fn checks(runs: &[Times]) -> Vec<Check> {
     DISTANCES.iter().enumerate().map(check).collect()
 }
 
-/// The middle times of all runs, as `rule_loops` has the sides.
+/// The middle times of all runs, as `rule_lines` has the sides.
 pub fn rules(runs: &[Times]) -> Vec<Rules> {
     let rule = |(place, &distance): (usize, &u64)| {
         let middle = |side: usize| spread(runs, |times| times.rules[place][side]).middle;

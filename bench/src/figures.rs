@@ -1,6 +1,6 @@
 //! What the runs say of the rows: ratios, the marks that they are to reach, and whether they do.
 
-use crate::rows::{Marks, PerSide, Row, ROWS};
+use crate::rows::{Marks, PerSide, Row};
 use crate::runs::Times;
 use crate::spread::Spread;
 
@@ -30,14 +30,14 @@ pub struct Figure {
 }
 
 /// The rows of all runs, with the instructions of each.
-pub fn figures(runs: &[Times], instructions: Option<&[PerSide]>) -> Vec<Figure> {
+pub fn figures(rows: &[Row], runs: &[Times], instructions: Option<&[PerSide]>) -> Vec<Figure> {
     let figure = |(place, row): (usize, &Row)| Figure {
         name: row.name,
         marks: row.marks(),
         runs: of_row(runs, place),
         instructions: instructions.map(|counts| counts[place]),
     };
-    ROWS.iter().enumerate().map(figure).collect()
+    rows.iter().enumerate().map(figure).collect()
 }
 
 fn of_row(runs: &[Times], place: usize) -> Vec<PerSide> {
@@ -194,7 +194,7 @@ fn listed<'a>(
 #[cfg(test)]
 pub mod tests {
     use super::*;
-    use crate::rows::MARKS;
+    use crate::rows::{MARKS, ROWS};
 
     /// A row in which all sides but the exported one take 10 ns and 100 instructions.
     pub fn row(name: &'static str, exported: &[f64], instructions: Option<f64>) -> Figure {
@@ -320,11 +320,10 @@ pub mod tests {
             rows: (0..ROWS.len())
                 .map(|row| vec![first + row as f64; 5])
                 .collect(),
-            stores: Vec::new(),
-            rules: Vec::new(),
+            ..Times::default()
         };
         let counts = vec![PerSide::from_line(&[7.0; 5]); ROWS.len()];
-        let figures = figures(&[times(10.0), times(20.0)], Some(&counts));
+        let figures = figures(&ROWS, &[times(10.0), times(20.0)], Some(&counts));
         let (last, place) = (figures.last().expect("a row"), ROWS.len() - 1);
         assert_eq!((figures.len(), last.name), (ROWS.len(), ROWS[place].name));
         let marks = figures.iter().map(|figure| figure.marks);

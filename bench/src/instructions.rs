@@ -4,15 +4,15 @@
 use std::io::ErrorKind;
 use std::process::{Command, Output};
 
-use crate::rows::{PerSide, Row, Side, ROWS, SIDES};
+use crate::rows::{PerSide, Row, Side, SIDES};
 
 /// Calls of the two runs.
 const FEW: u64 = 4_000;
 const MANY: u64 = 24_000;
 
-/// The counts of each row, or none where valgrind is not installed.
-pub fn count() -> Option<Vec<PerSide>> {
-    is_installed().then(|| ROWS.iter().map(count_row).collect())
+/// The counts of each of these rows, or none where valgrind is not installed.
+pub fn count(rows: &[Row]) -> Option<Vec<PerSide>> {
+    is_installed().then(|| rows.iter().map(count_row).collect())
 }
 
 fn is_installed() -> bool {

@@ -6,11 +6,18 @@ use exports::exports as c;
 /// What a call answers, on every side.
 pub use c::{Answer, View};
 
-/// Sizes of the lent buffers, the same on all sides.
-pub const PERMANENT: usize = 2_048;
-pub const HEAP: u64 = 1_024;
+/// Sizes of the lent buffers, the same on all sides. A side may be lent a part of the scratch store and of the maps.
+const PERMANENT: usize = 2_048;
+const HEAP: u64 = 1_024;
 pub const SCRATCH: usize = 16_384;
-pub const MAP: usize = (PERMANENT + SCRATCH) / 64;
+const MAP: usize = map_words(SCRATCH);
+/// Words of a block of scratch.
+pub const BLOCK: u64 = 16;
+
+/// The words of either map where the scratch store has so many.
+const fn map_words(scratch: usize) -> usize {
+    (PERMANENT + scratch).div_ceil(64)
+}
 
 pub trait Machine {
     fn set_up() -> Self
@@ -21,6 +28,7 @@ pub trait Machine {
     fn start_helper(&mut self, t: u64, kind: u64, helper: u64) -> Answer;
     fn end(&mut self, t: u64) -> Answer;
     fn make(&mut self, t: u64, area: u64, size: u64) -> Answer;
+    fn remove(&mut self, t: u64, area: u64) -> Answer;
     fn enter(&mut self, t: u64, area: u64) -> Answer;
     fn exit(&mut self, t: u64) -> Answer;
     fn allocate(&mut self, t: u64, slots: u64, data_words: u64) -> Answer;
@@ -33,19 +41,25 @@ pub trait Machine {
     fn buffers(&self) -> [&[u64]; 4];
 }
 
-/// The lent buffers and the state, in one piece from the start of a page on, so that they lie alike on all sides;
+/// A core that may be lent a scratch store of any length up to the whole one. The length is a constant of its type, as
+/// it is one of a host's program.
+pub trait Resizable: Machine + 'static {
+    type With<const S: usize>: Machine + 'static;
+}
+
+/// The buffers and the state, in one piece from the start of a page on, so that they lie alike on all sides;
 /// the state is aligned to 64 bytes.
 #[repr(C, align(4096))]
-struct Memory<S> {
+struct Memory<State> {
     permanent: [u64; PERMANENT],
     scratch: [u64; SCRATCH],
     map: [u64; MAP],
     written: [u64; MAP],
-    state: S,
+    state: State,
 }
 
-impl<S> Memory<S> {
-    fn new(state: S) -> Box<Memory<S>> {
+impl<State> Memory<State> {
+    fn new(state: State) -> Box<Memory<State>> {
         Box::new(Memory {
             permanent: [0; PERMANENT],
             scratch: [0; SCRATCH],
@@ -58,19 +72,48 @@ impl<S> Memory<S> {
     fn buffers(&self) -> [&[u64]; 4] {
         [&self.permanent, &self.scratch, &self.map, &self.written]
     }
+
+    /// The state and the buffers, as they are lent with a scratch store of S words.
+    #[inline(always)]
+    fn lent<const S: usize>(&mut self) -> (&mut State, [&mut [u64]; 4]) {
+        let buffers = [
+            &mut self.permanent[..],
+            &mut self.scratch[..S],
+            &mut self.map[..map_words(S)],
+            &mut self.written[..map_words(S)],
+        ];
+        (&mut self.state, buffers)
+    }
 }
 
 // ---- the exported functions
 
-/// The state's tables, where no row of 32 bytes crosses a cache line.
-#[repr(C, align(64))]
+/// The state's tables, as they lie in a host's handle.
+#[repr(C)]
 struct Tables {
-    words: [u64; 548],
-    bytes: [u8; 3108],
+    words_line: c::CacheLine,
+    words: [u64; c::STATE_WORDS],
+    bytes_line: c::CacheLine,
+    bytes: [u8; c::STATE_BYTES],
 }
 
-pub struct Core {
+impl Tables {
+    fn new(words: [u64; c::STATE_WORDS], bytes: [u8; c::STATE_BYTES]) -> Tables {
+        Tables {
+            words_line: c::CacheLine,
+            words,
+            bytes_line: c::CacheLine,
+            bytes,
+        }
+    }
+}
+
+pub struct Core<const S: usize = SCRATCH> {
     memory: Box<Memory<Tables>>,
+}
+
+impl<const ANY: usize> Resizable for Core<ANY> {
+    type With<const S: usize> = Core<S>;
 }
 
 /// Calls of exported functions with the state, the buffers and numbers.
@@ -78,8 +121,8 @@ macro_rules! exported {
     ($($method:ident($($number:ident),*) -> $answer:ident: $function:ident;)*) => {
         $(#[inline(always)]
         fn $method(&mut self, $($number: u64),*) -> $answer {
-            let Memory { permanent, scratch, map, written, state } = &mut *self.memory;
-            // SAFETY: the state is one of set-up and calls, with the buffers of its set-up, which are arrays with
+            let (state, [permanent, scratch, map, written]) = self.memory.lent::<S>();
+            // SAFETY: the state is one of set-up and calls, with the buffers of its set-up, which are slices with
             // their lengths.
             unsafe {
                 c::$function(
@@ -100,35 +143,36 @@ macro_rules! exported {
     };
 }
 
-impl Machine for Core {
-    fn set_up() -> Core {
-        let mut memory = Memory::new(Tables {
-            words: [0; 548],
-            bytes: [0; 3108],
-        });
-        // SAFETY: four arrays with their lengths.
-        let state = unsafe {
+impl<const S: usize> Machine for Core<S> {
+    fn set_up() -> Core<S> {
+        let mut memory = Memory::new(Tables::new([0; c::STATE_WORDS], [0; c::STATE_BYTES]));
+        let (state, [permanent, scratch, map, written]) = memory.lent::<S>();
+        // SAFETY: four slices with their lengths.
+        let c::NewState {
+            status,
+            words,
+            bytes,
+        } = unsafe {
             c::scopes_set_up(
-                memory.permanent.as_ptr(),
-                PERMANENT,
-                memory.scratch.as_ptr(),
-                SCRATCH,
-                memory.map.as_ptr(),
-                MAP,
-                memory.written.as_ptr(),
-                MAP,
+                permanent.as_ptr(),
+                permanent.len(),
+                scratch.as_ptr(),
+                scratch.len(),
+                map.as_ptr(),
+                map.len(),
+                written.as_ptr(),
+                written.len(),
                 HEAP,
                 PERMANENT as u64 - HEAP,
             )
         };
-        assert_eq!(state.status, 0);
-        let c::NewState { words, bytes, .. } = state;
-        memory.state = Tables { words, bytes };
+        assert_eq!(status, 0);
+        *state = Tables::new(words, bytes);
         Core { memory }
     }
 
     fn load_rights(&mut self, text: &[u8]) -> Answer {
-        let Tables { words, bytes } = &mut self.memory.state;
+        let Tables { words, bytes, .. } = &mut self.memory.state;
         let (words, bytes) = (words.as_ptr(), bytes.as_mut_ptr());
         // SAFETY: the state is one of set-up and calls; the text is a slice with its length.
         unsafe { c::scopes_load_rights(words, bytes, text.as_ptr(), text.len()) }
@@ -143,6 +187,7 @@ impl Machine for Core {
         start_helper(t, kind, helper) -> Answer: scopes_start_helper;
         end(t) -> Answer: scopes_end;
         make(t, area, size) -> Answer: scopes_make;
+        remove(t, area) -> Answer: scopes_remove;
         enter(t, area) -> Answer: scopes_enter;
         exit(t) -> Answer: scopes_exit;
         allocate(t, slots, data_words) -> Answer: scopes_allocate;
@@ -165,7 +210,7 @@ macro_rules! called {
     ) => {
         $(#[inline(always)]
         $visible fn $method(&mut self, $($number: u64),*) -> $answer {
-            let Memory { permanent, scratch, map, written, state } = &mut *self.memory;
+            let (state, [permanent, scratch, map, written]) = self.memory.lent::<S>();
             let given = $crate_name::$function(state, permanent, scratch, map, written, $($number),*);
             $answer { $($field: given.$field),* }
         })*
@@ -175,13 +220,17 @@ macro_rules! called {
 /// A side over one of these crates, with one of its stores.
 macro_rules! side {
     ($side:ident, $crate_name:ident, $store:ident) => {
-        pub struct $side {
+        pub struct $side<const S: usize = SCRATCH> {
             memory: Box<Memory<$crate_name::State>>,
         }
 
-        impl Machine for $side {
-            fn set_up() -> $side {
-                let state = $crate_name::State::set_up(PERMANENT, SCRATCH, MAP, HEAP);
+        impl<const ANY: usize> Resizable for $side<ANY> {
+            type With<const S: usize> = $side<S>;
+        }
+
+        impl<const S: usize> Machine for $side<S> {
+            fn set_up() -> $side<S> {
+                let state = $crate_name::State::set_up(PERMANENT, S, map_words(S), HEAP);
                 $side {
                     memory: Memory::new(state),
                 }
@@ -205,6 +254,7 @@ macro_rules! side {
                 start_helper(t, kind, helper) -> Answer { status, value }: start_helper;
                 end(t) -> Answer { status, value }: end;
                 make(t, area, size) -> Answer { status, value }: make;
+                remove(t, area) -> Answer { status, value }: remove;
                 enter(t, area) -> Answer { status, value }: enter;
                 exit(t) -> Answer { status, value }: exit;
                 allocate(t, slots, data_words) -> Answer { status, value }: allocate;
@@ -225,7 +275,7 @@ side!(InLine, in_line, store);
 side!(Walk, in_line, store_by_walk);
 side!(Scan, in_line, store_by_scan);
 
-impl InLine {
+impl<const S: usize> InLine<S> {
     /// One of the rules alone.
     #[inline(always)]
     pub fn check(&self, rule: in_line::Rule, t: u64, holder: u64, target: u64) -> bool {
@@ -233,7 +283,7 @@ impl InLine {
     }
 }
 
-impl Scan {
+impl<const S: usize> Scan<S> {
     called! {
         in_line,
         // A store that the scan does not decide.

@@ -4,8 +4,12 @@
 //! by running `bench count` under valgrind. `bench instructions` prints the counts alone, `bench agree` only tries
 //! whether the sides answer alike, which is tried before measuring too. `bench count ROW SIDE CALLS` makes the calls
 //! of a row on one side and nothing else; `bench rows` and `bench sides` name what it knows.
+//!
+//! For a quick look, `bench instructions PART` counts, and `bench quick PART` measures once, only the rows in whose
+//! names the part stands; `bench pairs` measures once a scope that is made and removed, by blocks.
 
 mod agree;
+mod blocks;
 mod distances;
 mod figures;
 mod instructions;
@@ -20,7 +24,7 @@ mod spread;
 
 use std::path::Path;
 
-use rows::{ROWS, SIDES};
+use rows::{Row, ROWS, SIDES};
 use runs::Times;
 
 /// Makes the calls of a row on one side and nothing else.
@@ -37,21 +41,40 @@ fn report(folder: &Path) {
     std::fs::create_dir_all(folder).expect("the folder can be made");
     agree::check();
     let runs = runs::repeat();
-    let counts = instructions::count();
-    let figures = figures::figures(&runs, counts.as_deref());
+    let counts = instructions::count(&ROWS);
+    let figures = figures::figures(&ROWS, &runs, counts.as_deref());
     let checks = distances::checks(&runs);
     let parts = [
         ("calls.md", report::calls(&figures)),
-        ("instructions.md", report::instructions(counts.as_deref())),
+        (
+            "instructions.md",
+            report::instructions(&ROWS, counts.as_deref()),
+        ),
         (
             "distances.md",
             report::distances(&checks, &distances::rules(&runs)),
         ),
         ("reference-check.svg", plot::svg(&checks)),
+        ("pairs.md", report::pairs(&blocks::pairs(&runs))),
     ];
     for (name, part) in parts {
         std::fs::write(folder.join(name), part).expect("the folder can be written");
     }
+}
+
+/// Counts the instructions of some rows.
+fn instructions(rows: &[Row]) -> String {
+    report::instructions(rows, instructions::count(rows).as_deref())
+}
+
+/// Measures some rows once.
+fn quick(rows: &[Row]) -> String {
+    report::calls_table(&figures::figures(rows, &[Times::of_rows(rows)], None))
+}
+
+/// Measures the pairs once.
+fn pairs() -> String {
+    report::pairs(&blocks::pairs(&[Times::of_pairs()]))
 }
 
 /// Does what the words ask for, where they do.
@@ -62,7 +85,10 @@ fn obey(words: &[&str]) -> Option<()> {
         ["rows"] => ROWS.iter().for_each(|row| println!("{}", row.name)),
         ["sides"] => SIDES.iter().for_each(|side| println!("{}", side.name)),
         ["times"] => print!("{}", Times::measure().text()),
-        ["instructions"] => print!("{}", report::instructions(instructions::count().as_deref())),
+        ["instructions"] => print!("{}", instructions(&ROWS)),
+        ["instructions", part] => print!("{}", instructions(&rows::named(part)?)),
+        ["quick", part] => print!("{}", quick(&rows::named(part)?)),
+        ["pairs"] => print!("{}", pairs()),
         ["report", folder] => report(Path::new(folder)),
         _ => return None,
     }
@@ -74,8 +100,8 @@ fn main() {
     let words: Vec<&str> = words.iter().map(String::as_str).collect();
     if obey(&words).is_none() {
         eprintln!(
-            "usage: bench report FOLDER, bench instructions, bench agree, bench times, bench rows, bench sides, \
-             or bench count ROW SIDE CALLS"
+            "usage: bench report FOLDER, bench instructions [PART], bench quick PART, bench pairs, bench agree, \
+             bench times, bench rows, bench sides, or bench count ROW SIDE CALLS"
         );
         std::process::exit(2);
     }

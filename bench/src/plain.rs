@@ -1,10 +1,13 @@
 //! The core in plain safe Rust: a state of records in place, lent as `&mut State`, with the same checks in
 //! the same order. The innermost scope stands beside each stack entry, so that every call takes
-//! constant time here too, but for the start of a helper, which goes over its starter's stack.
+//! constant time here too, but for the start of a helper, which goes over its starter's stack, and for a
+//! scope that is made or removed, which goes over used bits.
 //!
 //! It is compiled twice: as the compiler thinks best, and with the inner functions forced in line.
 
 const LAST_GENERATION: u64 = (1 << 44) - 1;
+/// Words of a block of scratch.
+const BLOCK: u64 = 16;
 
 #[derive(Clone, Copy, Debug, PartialEq, Eq)]
 pub struct Answer {
@@ -51,7 +54,8 @@ pub struct State {
     pub permanent: usize,
     pub scratch: usize,
     pub map: usize,
-    pub taken: u64,
+    /// Bit k is 1 where block k of scratch is some made scope's.
+    pub used_bits: [u64; 16],
     pub rights: Rights,
 }
 
@@ -130,7 +134,7 @@ impl State {
             permanent,
             scratch,
             map,
-            taken: 0,
+            used_bits: [0; 16],
             rights: BUILT_IN,
         }
     }
@@ -264,7 +268,7 @@ fn has_bit(map: &[u64], bit: usize) -> bool {
     map[bit / 64] >> (bit % 64) & 1 != 0
 }
 
-// ---- a load, and ops 01 and 03, which are not measured
+// ---- a load and op 01, which are not measured
 
 pub fn load_rights(st: &mut State, text: &[u8]) -> Answer {
     let Some(rights) = rights_of(text) else {
@@ -313,6 +317,9 @@ pub fn start(
     accepted(0)
 }
 
+// ---- ops 03 and 0c
+
+#[inline(never)]
 #[allow(clippy::too_many_arguments)]
 pub fn make(
     st: &mut State,
@@ -333,13 +340,66 @@ pub fn make(
     if st.is_made(area as usize) {
         return refused(7);
     }
-    if size == 0 || size > st.scratch as u64 - st.taken {
+    if size == 0 {
         return refused(8);
     }
-    st.areas[area as usize].start = st.taken;
-    st.areas[area as usize].size = size;
-    st.taken += size;
+    let (blocks, n) = (st.scratch / BLOCK as usize, blocks_for(size));
+    let Some(first) = lowest_run(&st.used_bits, blocks, n) else {
+        return refused(8);
+    };
+    set_bits(&mut st.used_bits, first, n);
+    let scope = &mut st.areas[area as usize];
+    scope.start = first as u64 * BLOCK;
+    scope.size = size;
     accepted(0)
+}
+
+#[inline(never)]
+pub fn remove(
+    st: &mut State,
+    p: &[u64],
+    s: &[u64],
+    m: &[u64],
+    w: &[u64],
+    t: u64,
+    area: u64,
+) -> Answer {
+    if let Err(status) = st.caller(p, s, m, w, t) {
+        return refused(status);
+    }
+    if !(2..64).contains(&area) || !st.is_made(area as usize) {
+        return refused(6);
+    }
+    let scope = &mut st.areas[area as usize];
+    if scope.count > 0 {
+        return refused(20);
+    }
+    let (first, n) = ((scope.start / BLOCK) as usize, blocks_for(scope.size));
+    clear_bits(&mut st.used_bits, first, n);
+    scope.start = 0;
+    scope.size = 0;
+    accepted(0)
+}
+
+/// The blocks that hold so many words.
+#[cfg_attr(feature = "in_line", inline(always))]
+fn blocks_for(size: u64) -> usize {
+    size.div_ceil(BLOCK) as usize
+}
+
+/// The lowest start of n adjacent clear bits among the first ones: the jumping search of source 000, Figure 6, which
+/// looks at a window from its end down.
+#[cfg_attr(feature = "in_line", inline(always))]
+fn lowest_run(map: &[u64], bits: usize, n: usize) -> Option<usize> {
+    let mut start = 0;
+    while n <= bits - start {
+        let mut window = (start..start + n).rev();
+        match window.find(|&bit| has_bit(map, bit)) {
+            None => return Some(start),
+            Some(used) => start = used + 1,
+        }
+    }
+    None
 }
 
 // ---- ops 04 and 05
@@ -531,16 +591,27 @@ pub fn allocate(
     accepted(handle)
 }
 
-/// Clears the n bits from bit w on, a word of the map at a time.
+#[cfg_attr(feature = "in_line", inline(always))]
+fn set_bits(map: &mut [u64], w: usize, n: usize) {
+    change_bits(map, w, n, |word, ones| word | ones);
+}
+
 #[cfg_attr(feature = "in_line", inline(always))]
 fn clear_bits(map: &mut [u64], w: usize, n: usize) {
+    change_bits(map, w, n, |word, ones| word & !ones);
+}
+
+/// Changes the n bits from bit w on, a word of the map at a time, by a mask of ones.
+#[cfg_attr(feature = "in_line", inline(always))]
+fn change_bits(map: &mut [u64], w: usize, n: usize, changed: impl Fn(u64, u64) -> u64) {
     let end = w + n;
     let mut at = w;
     while at < end {
         let low = at % 64;
         let count = (64 - low).min(end - at);
         let ones = u64::MAX >> (64 - count);
-        map[at / 64] &= !(ones << low);
+        let word = &mut map[at / 64];
+        *word = changed(*word, ones << low);
         at += count;
     }
 }

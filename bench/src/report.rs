@@ -1,8 +1,10 @@
 //! The measured parts of the report in Markdown: ratios first.
 
+use crate::blocks::Pair;
 use crate::distances::{Check, Rules};
 use crate::figures::{self, Figure, Ratio, READ};
-use crate::rows::{PerSide, Row, ROWS};
+use crate::rows::{PerSide, Row};
+use crate::scenes::Used;
 use crate::spread::Spread;
 
 /// The first table, what it shows, and the view beside the read.
@@ -17,7 +19,7 @@ pub fn calls(figures: &[Figure]) -> String {
     .join("\n")
 }
 
-fn calls_table(figures: &[Figure]) -> String {
+pub fn calls_table(figures: &[Figure]) -> String {
     let headings = [
         "call",
         "ratio to tuned",
@@ -69,8 +71,8 @@ fn view_table(figures: &[Figure]) -> String {
     table(&headings, rows.into_iter())
 }
 
-/// The counts of each row, in the order of the rows.
-pub fn instructions(counts: Option<&[PerSide]>) -> String {
+/// The counts of each of these rows, in their order.
+pub fn instructions(rows: &[Row], counts: Option<&[PerSide]>) -> String {
     let Some(counts) = counts else {
         return "valgrind is not installed here, so that no instructions were counted.\n".into();
     };
@@ -98,7 +100,7 @@ pub fn instructions(counts: Option<&[PerSide]>) -> String {
     };
     table(
         &headings.map(String::from),
-        ROWS.iter().zip(counts).map(row),
+        rows.iter().zip(counts).map(row),
     )
 }
 
@@ -168,6 +170,41 @@ fn flatness(checks: &[Check]) -> String {
     format!("From distance 1 to 31 the exported store's times lie within {percent:.1} %.")
 }
 
+/// Pairs of make and remove by blocks.
+pub fn pairs(pairs: &[Pair]) -> String {
+    let headings = [
+        "used before",
+        "blocks of scratch",
+        "blocks asked for",
+        "exported",
+        "tuned",
+        "plain Rust",
+        "exported / tuned",
+        "exported / plain",
+    ];
+    let row = |pair: &Pair| {
+        [
+            used(pair.search.used),
+            thousands(pair.search.blocks),
+            thousands(pair.search.asked),
+            nanoseconds(pair.exported),
+            nanoseconds(pair.tuned),
+            nanoseconds(pair.plain),
+            hundredths(pair.exported / pair.tuned),
+            hundredths(pair.exported / pair.plain),
+        ]
+    };
+    table(&headings.map(String::from), pairs.iter().map(row))
+}
+
+fn used(used: Used) -> String {
+    match used {
+        Used::Nothing => "none".into(),
+        Used::First => "block 0".into(),
+        Used::EverySecond(count) => format!("every second, {count} in all"),
+    }
+}
+
 fn table<const N: usize>(
     headings: &[String; N],
     rows: impl Iterator<Item = [String; N]>,
@@ -195,6 +232,14 @@ fn whole(number: f64) -> String {
     format!("{number:.0}")
 }
 
+/// A number below a million, its thousands set off.
+fn thousands(number: u64) -> String {
+    match number / 1_000 {
+        0 => number.to_string(),
+        thousands => format!("{thousands},{:03}", number % 1_000),
+    }
+}
+
 fn range(spread: Spread) -> String {
     format!("{:.2} to {:.2}", spread.least, spread.most)
 }
@@ -202,7 +247,9 @@ fn range(spread: Spread) -> String {
 #[cfg(test)]
 mod tests {
     use super::*;
+    use crate::blocks::Search;
     use crate::figures::tests::row;
+    use crate::rows::ROWS;
 
     #[test]
     fn a_table_has_its_headings_a_ruler_and_its_rows() {
@@ -249,7 +296,7 @@ mod tests {
     fn counts_stand_behind_their_ratios() {
         let mut counts = vec![PerSide::from_line(&[1.0; 5]); ROWS.len()];
         counts[0] = PerSide::from_line(&[105.4, 100.0, 84.0, 164.0, 120.0]);
-        let text = instructions(Some(&counts));
+        let text = instructions(&ROWS, Some(&counts));
         let first = format!(
             "| {} | 1.05 | 1.25 | 105 | 100 | 84 | 164 | 120 |",
             ROWS[0].name
@@ -260,7 +307,7 @@ mod tests {
 
     #[test]
     fn where_none_were_counted_it_says_so() {
-        assert!(instructions(None).starts_with("valgrind is not installed"));
+        assert!(instructions(&ROWS, None).starts_with("valgrind is not installed"));
     }
 
     fn check(distance: u64, exported: f64) -> Check {
@@ -287,5 +334,23 @@ mod tests {
         let text = checks_table(&[check(4, 9.0)]);
         let row = "| 4 | 9.00 ns | 10.00 ns | 25.00 ns | 15.00 ns | 0.90 | 2.50 | 1.50 |";
         assert_eq!(text.lines().last(), Some(row));
+    }
+    #[test]
+    fn pairs_stand_behind_what_their_search_meets() {
+        let pair = |search| Pair {
+            search,
+            exported: 11.0,
+            tuned: 10.0,
+            plain: 22.0,
+        };
+        let text = pairs(&[
+            pair(Search::in_empty(1_024, 16)),
+            pair(Search::behind_every_second(32)),
+        ]);
+        let rows: Vec<&str> = text.lines().skip(2).collect();
+        let times = "11.00 ns | 10.00 ns | 22.00 ns | 1.10 | 0.50 |";
+        assert_eq!(rows[0], format!("| none | 1,024 | 16 | {times}"));
+        let used = "every second, 15 in all";
+        assert_eq!(rows[1], format!("| {used} | 32 | 2 | {times}"));
     }
 }

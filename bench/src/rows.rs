@@ -1,8 +1,9 @@
 //! The rows and the sides of the first table: which calls are compared, on which cores, and how much more than Rust
 //! they may take.
 
-use crate::machine::{Core, InLine, Machine, Plain, Tuned, Unchecked};
-use crate::measure::Loop;
+use crate::blocks::{self, Search};
+use crate::machine::{Core, InLine, Machine, Plain, Resizable, Tuned, Unchecked};
+use crate::measure::{Line, Loop};
 use crate::scenes::{Nest, Room};
 
 /// How deep the calls on objects and the start of a helper are nested, and how far above a target is.
@@ -23,6 +24,8 @@ enum Calls {
     Helper,
     /// An object of no slot and so many data words.
     Allocate(u64),
+    /// A scope that is made and removed.
+    MakeAndRemove(Search),
 }
 
 /// The most that the ratios to tuned Rust and to it unchecked may be.
@@ -32,9 +35,10 @@ pub struct Marks {
     pub unchecked: f64,
 }
 
-/// Of a call or a pair of calls, and of the ten calls of a helper.
+/// Of a call or a pair of calls, and of what takes as long as there are entries or blocks: a helper's ten calls, and a
+/// scope that is made and removed.
 pub const MARKS: Marks = marks(1.0, 1.05);
-const HELPER_MARKS: Marks = marks(1.1, 1.15);
+const LONG_MARKS: Marks = marks(1.1, 1.15);
 
 const fn marks(tuned: f64, unchecked: f64) -> Marks {
     Marks { tuned, unchecked }
@@ -49,13 +53,22 @@ pub struct Row {
 impl Row {
     pub fn marks(&self) -> Marks {
         match self.calls {
-            Calls::Helper => HELPER_MARKS,
+            Calls::Helper | Calls::MakeAndRemove(_) => LONG_MARKS,
             _ => MARKS,
+        }
+    }
+
+    /// Its loops, one on each side.
+    fn line(&self) -> Line {
+        let loops = SIDES.iter().map(|side| (side.row_loop)(*self)).collect();
+        match self.calls {
+            Calls::MakeAndRemove(_) => Line::of_long_calls(loops),
+            _ => Line::of_short_calls(loops),
         }
     }
 }
 
-pub const ROWS: [Row; 13] = [
+pub const ROWS: [Row; 17] = [
     row("store", Calls::Store),
     row("load", Calls::Load),
     row("read", Calls::Read),
@@ -69,7 +82,19 @@ pub const ROWS: [Row; 13] = [
     row("allocate, 1 data word", Calls::Allocate(1)),
     row("allocate, 8 data words", Calls::Allocate(8)),
     row("allocate, 64 data words", Calls::Allocate(64)),
+    row("make + remove, 1 block, empty scratch", in_empty(1)),
+    row("make + remove, 16 blocks, empty scratch", in_empty(16)),
+    row("make + remove, 255 blocks, empty scratch", in_empty(255)),
+    row(
+        "make + remove, 2 blocks, every second block used",
+        Calls::MakeAndRemove(Search::behind_every_second(128)),
+    ),
 ];
+
+/// A scope of so many blocks in an empty scratch store, as long as the program's.
+const fn in_empty(asked: u64) -> Calls {
+    Calls::MakeAndRemove(Search::in_empty(256, asked))
+}
 
 const fn row(name: &'static str, calls: Calls) -> Row {
     Row { name, calls }
@@ -119,14 +144,20 @@ impl PerSide {
     }
 }
 
-/// A line of loops for each row, one on each side.
-pub fn loops() -> Vec<Vec<Loop>> {
-    let on_sides = |&row| SIDES.iter().map(|side| (side.row_loop)(row)).collect();
-    ROWS.iter().map(on_sides).collect()
+/// A line of loops for each of these rows.
+pub fn lines(rows: &[Row]) -> Vec<Line> {
+    rows.iter().map(Row::line).collect()
+}
+
+/// The rows in whose names a part stands, where there are any.
+pub fn named(part: &str) -> Option<Vec<Row>> {
+    let has_part = |row: &&Row| row.name.contains(part);
+    let rows: Vec<Row> = ROWS.iter().filter(has_part).copied().collect();
+    (!rows.is_empty()).then_some(rows)
 }
 
 /// The loop of a row on one side.
-fn row_loop<M: Machine + 'static>(row: Row) -> Loop {
+fn row_loop<M: Resizable>(row: Row) -> Loop {
     match row.calls {
         Calls::Store => nested::<M>(DEPTH, |nest, calls| nest.store(calls, DISTANCE)),
         Calls::Load => nested::<M>(DEPTH, |nest, calls| nest.load(calls, DISTANCE)),
@@ -139,6 +170,7 @@ fn row_loop<M: Machine + 'static>(row: Row) -> Loop {
             let mut room = Room::<M>::new();
             Box::new(move |calls| room.allocate(calls, data_words))
         }
+        Calls::MakeAndRemove(search) => blocks::pair_loop::<M>(search),
     }
 }
 

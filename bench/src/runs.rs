@@ -3,19 +3,20 @@
 
 use std::process::{Command, Stdio};
 
+use crate::blocks;
 use crate::distances;
 use crate::measure;
-use crate::rows;
+use crate::rows::{self, Row, ROWS};
 use crate::spread::Spread;
 
 /// Runs of the whole measurement.
 const RUNS: usize = 7;
 
-/// Nanoseconds: a line for each row or distance, a number for each side of it.
+/// Nanoseconds: a line for each row, distance or search, a number for each side of it.
 type Lines = Vec<Vec<f64>>;
 
 /// The times of one process.
-#[derive(Clone, Debug, PartialEq)]
+#[derive(Clone, Debug, Default, PartialEq)]
 pub struct Times {
     /// Of the first table's rows.
     pub rows: Lines,
@@ -23,20 +24,41 @@ pub struct Times {
     pub stores: Lines,
     /// Of the reference check alone, likewise.
     pub rules: Lines,
+    /// Of pairs of make and remove by blocks.
+    pub pairs: Lines,
 }
 
 impl Times {
+    /// Of everything.
     pub fn measure() -> Times {
         Times {
-            rows: measure::best(rows::loops()),
-            stores: measure::best(distances::store_loops()),
-            rules: measure::best(distances::rule_loops()),
+            rows: measure::best(rows::lines(&ROWS)),
+            stores: measure::best(distances::store_lines()),
+            rules: measure::best(distances::rule_lines()),
+            pairs: measure::best(blocks::lines()),
+        }
+    }
+
+    /// Of some rows alone.
+    pub fn of_rows(rows: &[Row]) -> Times {
+        Times {
+            rows: measure::best(rows::lines(rows)),
+            ..Times::default()
+        }
+    }
+
+    /// Of the pairs alone.
+    pub fn of_pairs() -> Times {
+        Times {
+            pairs: measure::best(blocks::lines()),
+            ..Times::default()
         }
     }
 
     /// What `parse` reads: a line of numbers for each line, an empty one between two parts.
     pub fn text(&self) -> String {
-        [&self.rows, &self.stores, &self.rules].map(part).join("\n")
+        let parts = [&self.rows, &self.stores, &self.rules, &self.pairs];
+        parts.map(part).join("\n")
     }
 
     fn parse(text: &str) -> Option<Times> {
@@ -45,6 +67,7 @@ impl Times {
             rows: parts.next()??,
             stores: parts.next()??,
             rules: parts.next()??,
+            pairs: parts.next()??,
         };
         parts.next().is_none().then_some(times)
     }
@@ -94,14 +117,18 @@ mod tests {
             rows: vec![vec![1.5, 2.0], vec![0.1, 30.25]],
             stores: vec![vec![4.0]],
             rules: vec![vec![5.0, 6.0, 7.0]],
+            pairs: vec![vec![8.0], vec![9.0]],
         };
-        assert_eq!(times.text(), "1.5 2\n0.1 30.25\n\n4\n\n5 6 7\n");
+        let text = "1.5 2\n0.1 30.25\n\n4\n\n5 6 7\n\n8\n9\n";
+        assert_eq!(times.text(), text);
         assert_eq!(Times::parse(&times.text()), Some(times));
     }
 
     #[test]
     fn other_texts_are_no_times() {
-        for text in ["", "1 2\n\n3\n", "1\n\n2\n\nthree\n", "1\n\n2\n\n3\n\n4\n"] {
+        let short = ["", "1 2\n\n3\n", "1\n\n2\n\n3\n"];
+        let wrong = ["1\n\n2\n\n3\n\nfour\n", "1\n\n2\n\n3\n\n4\n\n5\n"];
+        for text in short.iter().chain(&wrong) {
             assert_eq!(Times::parse(text), None, "{text:?}");
         }
     }

@@ -2,7 +2,7 @@
 
 use std::hint::black_box;
 
-use crate::machine::{Answer, InLine, Machine, SCRATCH};
+use crate::machine::{Answer, InLine, Machine, BLOCK, SCRATCH};
 
 /// The thread of all calls, and the helper that it starts; both are real-time, so that they may do everything.
 const T: u64 = 0;
@@ -192,6 +192,96 @@ impl<M: Machine> Room<M> {
             }
             ok(self.machine.allocate(T, 0, 0));
             black_box(self.machine.exit(T));
+        }
+    }
+}
+
+/// Which blocks of scratch belong to scopes before one more is made.
+#[derive(Clone, Copy)]
+pub enum Used {
+    Nothing,
+    First,
+    /// Every second one, so many in all: 1, 3, ..
+    EverySecond(u64),
+}
+
+/// The thread with closed scopes of one block, and one scope more, which it makes and removes.
+pub struct Blocks<M> {
+    machine: M,
+    size: u64,
+}
+
+impl<M: Machine> Blocks<M> {
+    const SCOPE: u64 = FIRST_SCOPE;
+
+    /// The scope has so many blocks.
+    pub fn new(used: Used, blocks: u64) -> Blocks<M> {
+        let mut machine = M::set_up();
+        ok(machine.start(T, REAL_TIME));
+        match used {
+            Used::Nothing => {}
+            Used::First => use_block(&mut machine, Self::SCOPE + 1),
+            Used::EverySecond(count) => use_every_second(&mut machine, count, Self::SCOPE),
+        }
+        let size = blocks * BLOCK;
+        Blocks { machine, size }
+    }
+
+    pub fn make_and_remove(&mut self, turns: u64) {
+        for _ in 0..turns {
+            self.turn(|answer| _ = black_box(answer));
+        }
+        self.turn(|answer| _ = ok(answer));
+    }
+
+    #[inline(always)]
+    fn turn(&mut self, answered: impl Fn(Answer)) {
+        let (scope, size) = (black_box(Self::SCOPE), black_box(self.size));
+        answered(self.machine.make(T, scope, size));
+        answered(self.machine.remove(T, scope));
+    }
+}
+
+/// Makes a scope of the lowest free block.
+fn use_block<M: Machine>(machine: &mut M, scope: u64) {
+    ok(machine.make(T, scope, BLOCK));
+}
+
+/// The last block is used first: a placeholder takes all those below it.
+fn use_every_second<M: Machine>(machine: &mut M, count: u64, placeholder: u64) {
+    for place in (0..count).rev() {
+        let below = 2 * place + 1;
+        ok(machine.make(T, placeholder, below * BLOCK));
+        use_block(machine, placeholder + 1 + place);
+        ok(machine.remove(T, placeholder));
+    }
+}
+
+#[cfg(test)]
+mod tests {
+    use super::*;
+    use crate::machine::Tuned;
+
+    /// The block where the scope lies that a scene makes and removes.
+    fn first_block(scene: Blocks<Tuned>) -> u64 {
+        let Blocks { mut machine, size } = scene;
+        let scope = Blocks::<Tuned>::SCOPE;
+        ok(machine.make(T, scope, size));
+        ok(machine.enter(T, scope));
+        let object = ok(machine.allocate(T, 0, 0));
+        let header = machine.view(T, object).from - 1;
+        assert_eq!(header % BLOCK, 0);
+        header / BLOCK
+    }
+
+    #[test]
+    fn the_scope_lies_behind_what_is_used() {
+        assert_eq!(first_block(Blocks::new(Used::Nothing, 255)), 0);
+        assert_eq!(first_block(Blocks::new(Used::First, 512)), 1);
+        for count in [7, 61] {
+            let every_second = Used::EverySecond(count);
+            assert_eq!(first_block(Blocks::new(every_second, 1)), 0);
+            assert_eq!(first_block(Blocks::new(every_second, 2)), 2 * count);
         }
     }
 }

@@ -28,8 +28,8 @@ mod by_place {
 }
 
 // SAFETY, of all four: every area ends within its store, every used word has its bit in the map, a live
-// object ends within its area's used words, and no stack is longer than its row. Set-up gives this and every call
-// keeps it.
+// object ends within its area's used words, no stack is longer than its row, and every block of scratch has its used
+// bit. Set-up gives this and every call keeps it.
 #[cfg(feature = "unchecked")]
 mod by_place {
     use super::Range;

@@ -1,40 +1,9 @@
-//! Ops 03, 04 and 05: scopes are made, entered and left.
+//! Ops 04 and 05: areas are entered and left.
 
 use crate::rights::Right;
 use crate::state::{accepted, refused, Answer, State, AREAS, FIRST_SCOPE, STACK_ENTRIES};
 
 const LAST_GENERATION: u64 = (1 << 44) - 1;
-
-#[allow(clippy::too_many_arguments)]
-pub fn make(
-    st: &mut State,
-    p: &[u64],
-    s: &[u64],
-    m: &[u64],
-    w: &[u64],
-    t: u64,
-    area: u64,
-    size: u64,
-) -> Answer {
-    if let Err(status) = st.caller(p, s, m, w, t) {
-        return refused(status);
-    }
-    if area < FIRST_SCOPE as u64 || area >= AREAS {
-        return refused(6);
-    }
-    let record = &mut st.areas[area as usize];
-    if record.size > 0 {
-        return refused(7);
-    }
-    if size == 0 || size > st.scratch as u64 - u64::from(st.taken) {
-        return refused(8);
-    }
-    record.start = st.taken;
-    record.bit = st.permanent as u32 + st.taken;
-    record.size = size as u32;
-    st.taken += size as u32;
-    accepted(0)
-}
 
 #[inline(never)]
 pub fn enter(

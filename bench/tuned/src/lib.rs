@@ -8,17 +8,20 @@
 
 mod access;
 mod areas;
+mod blocks;
 mod data;
 mod objects;
 mod references;
 mod rights;
+mod scopes;
 mod state;
 mod threads;
 
-pub use areas::{enter, exit, make};
+pub use areas::{enter, exit};
 pub use data::{read, view, write};
 pub use objects::allocate;
 pub use references::{load, store};
 pub use rights::load_rights;
+pub use scopes::{make, remove};
 pub use state::{Answer, State, View};
 pub use threads::{end, start, start_helper};

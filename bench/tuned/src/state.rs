@@ -1,6 +1,7 @@
 //! The state's records, and what every call begins with: the caller, and the object of a handle.
 
 use crate::access::get;
+use crate::blocks::UsedBits;
 use crate::rights::{masks, Mask, Right, BUILT_IN};
 
 pub const THREADS: u64 = 16;
@@ -72,8 +73,7 @@ pub struct State {
     pub scratch: usize,
     /// Of either map.
     pub map: usize,
-    /// Scratch words that belong to a scope.
-    pub taken: u32,
+    pub used_bits: UsedBits,
     /// Those of each kind.
     pub rights: [Mask; 3],
 }
@@ -112,7 +112,7 @@ impl State {
             permanent,
             scratch,
             map,
-            taken: 0,
+            used_bits: UsedBits::default(),
             rights: masks(&BUILT_IN),
         }
     }
