@@ -9,7 +9,7 @@ ghost use Rattle.runs.specs.LowestRun.{lowestRun, isClear};
 ghost use Rattle.runs.specs.ClearDown.{digitsDown};
 ghost use Rattle.runs.specs.Filled.{withDigits};
 
-// Where a run starts, and at how many bits the search has looked.
+// Where a run starts, and at how many bits the search has looked: a host sees nothing of it, and it costs nothing.
 pub struct Found {
     pub start: usize,
     pub looks: usize,
@@ -34,7 +34,7 @@ fn clear_above(digits: u64, w: usize) -> usize
 // The lowest run of n adjacent clear bits among the first `bits`; it starts at `bits` where there is none. The jumping
 // search of source 000, Figure 6: a run is looked at from its last bit down, and a set bit makes the next run start
 // behind it. It jumps while the last bit is set; then it goes down a map word at a time. It looks at no more than twice
-// the bits.
+// the bits, where a bit counts once for each run that it is looked at in.
 pub fn lowest_run(map: &[u64], n: usize, bits: usize) -> Found
     requires { ⌜ (0 < n) × (n ≤ bits) × (bits ≤ 64 * length (now map)) × (bits ≤ 1024) ⌝ }
     ensures { λ r. ⌜ (r .start ≡ lowestRun (isClear (now (map .entry))) n bits) × (r .looks ≤ 2 * bits) ⌝ }
@@ -53,8 +53,9 @@ pub fn lowest_run(map: &[u64], n: usize, bits: usize) -> Found
             last += n;
         }
         let start = last - (n - 1);
-        let mut at = last;
+        let mut end = last + 1;
         loop {
+            let at = end - 1;
             let digits = digits_down(map, at);
             if digits != 0 {
                 let clear = clear_above(digits, at);
@@ -66,12 +67,12 @@ pub fn lowest_run(map: &[u64], n: usize, bits: usize) -> Found
                 last = at - clear + n;
                 continue 'search;
             }
-            if at - start <= at % 64 {
+            end = at / 64 * 64;
+            if end <= start {
                 looks += at - start + 1;
                 break 'search start;
             }
-            looks += at % 64 + 1;
-            at -= at % 64 + 1;
+            looks += at - end + 1;
         }
     };
     Found {

@@ -1,8 +1,8 @@
--- `lowest_run` meets its contract. `Sought` is what the search knows before it looks at a run, `Looking` what it knows while it does: bit `at` is
+-- `lowest_run` meets its contract. `Sought` is what the search knows before it looks at a run, `Looking` what it knows while it does: bit `end - 1` is
 -- the next one.
 use mathlib.Core.List.{List}
 use mathlib.Core.Path.{_≡_, sym, _∙_}
-use Prim.Native.Nat.{ℕ, suc, _+_, _-_, _*_, _^_, _≤_, _<_}
+use Prim.Native.Nat.{ℕ, suc, _+_, _-_, _*_, _/_, _%_, _^_, _≤_, _<_}
 use native.Mathlib.Omega.{arith}
 use Rattle.runs.specs.ClearDown.{digits-bound, all-down, one-down}
 use Rattle.runs.specs.Search.{Sought, Looking, sought-first, looking-first, looking-more, sought-next, found, none}
@@ -32,6 +32,22 @@ next-start at n h = omega arith
 fits-next : (at clear n bits : ℕ) {end : ℕ} → at < end → end ≤ bits → n ≤ bits → bits ≤ 1024 → at - clear + n < 2 ^ 64
 fits-next at clear n bits p q h b = omega arith
 
+low : {start end : ℕ} → start < end → start ≤ end - 1
+low h = omega arith
+
+below : {start end top : ℕ} → start < end → end ≤ top → end - 1 < top
+below h p = omega arith
+
+within : (start at clear : ℕ) → clear ≤ at - start → clear ≤ at
+within start at clear h = omega arith
+
+-- the bits of a map word from bit `at` down, and those of the run that are left below them
+word-bits : (at : ℕ) → (at / 64 * 64 ≤ at) × (at - at / 64 * 64 + 1 ≡ at % 64 + 1)
+word-bits at = (omega arith, omega arith)
+
+word-rest : (at start from : ℕ) → from ≤ at → start < from → at - from + 1 + suc (from - 1 - start) ≡ suc (at - start)
+word-rest at start from p q = omega arith
+
 less : (all last next : ℕ) → last < next → last < all → all - next < all - last
 less all last next h l = omega arith
 
@@ -48,11 +64,11 @@ abbrev μ-loop : tie.MeasureT-loop
 μ-loop map n bits last₀ looks₀ last looks = bits + n - last
 
 abbrev Inv-loop2 : tie.InvT-loop2
-Inv-loop2 map n bits last₀ looks₀ start at₀ last looks at =
-    Looking map n bits start looks (suc (at - start)) × (start ≤ at) × (start + n ≡ suc last₀) × (at < start + n)
+Inv-loop2 map n bits last₀ looks₀ start end₀ last looks end =
+    Looking map n bits start looks (suc (end - 1 - start)) × (start < end) × (start + n ≡ suc last₀) × (end ≤ start + n)
 
 abbrev μ-loop2 : tie.MeasureT-loop2
-μ-loop2 map n bits last₀ looks₀ start at₀ last looks at = at
+μ-loop2 map n bits last₀ looks₀ start end₀ last looks end = end
 
 sub-last : tie.Need-sub-last Inv-loop μ-loop Inv-loop2 μ-loop2 Inv-search μ-search
 sub-last c = omega arith
@@ -91,22 +107,29 @@ sub-start c = omega arith
 sub-start-2 : tie.Need-sub-start-2 Inv-loop μ-loop Inv-loop2 μ-loop2 Inv-search μ-search
 sub-start-2 c = omega (arith, c .before .before .before .loop .inv .0)
 
+add-end : tie.Need-add-end Inv-loop μ-loop Inv-loop2 μ-loop2 Inv-search μ-search
+add-end c = omega arith
+
 loop2-holds : tie.Need-loop2-holds Inv-loop μ-loop Inv-loop2 μ-loop2 Inv-search μ-search
 loop2-holds c =
     let l = c .before .before .before .loop .inv in
-    (window (omega arith) (l .0) (omega arith) (l .1), omega arith, omega (arith, l .0), omega (arith, l .0))
+    let back : c .before .before .before .loop .last + 1 - 1 ≡ c .before .before .before .loop .last = omega arith in
+    (rw back (window (omega arith) (l .0) (omega arith) (l .1)), omega arith, omega (arith, l .0), omega (arith, l .0))
+
+sub-at : tie.Need-sub-at Inv-loop μ-loop Inv-loop2 μ-loop2 Inv-search μ-search
+sub-at c = omega (arith, c .loop2 .inv .1)
 
 digits-down-requires : tie.Need-digits-down-requires Inv-loop μ-loop Inv-loop2 μ-loop2 Inv-search μ-search
-digits-down-requires c κs = let l = c .loop2 .inv in omega (arith, l .0 .ends, l .3)
+digits-down-requires c κs = let l = c .loop2 .inv in omega (arith, l .0 .ends, l .1, l .3)
 
 clear-above-requires : tie.Need-clear-above-requires Inv-loop μ-loop Inv-loop2 μ-loop2 Inv-search μ-search
 clear-above-requires c κs = rw (c .before .digits-down .ensures) (digits-bound (c .before .before .before .before .before .before .before .before .before .args .map .now) _)
 
 sub-if4 : tie.Need-sub-if4 Inv-loop μ-loop Inv-loop2 μ-loop2 Inv-search μ-search
-sub-if4 c = c .before .before .before .loop2 .inv .1
+sub-if4 c = low (c .before .before .before .loop2 .inv .1)
 
 sub-looks : tie.Need-sub-looks Inv-loop μ-loop Inv-loop2 μ-loop2 Inv-search μ-search
-sub-looks c = c .before .before .before .before .loop2 .inv .1
+sub-looks c = low (c .before .before .before .before .loop2 .inv .1)
 
 add-looks-2 : tie.Need-add-looks-2 Inv-loop μ-loop Inv-loop2 μ-loop2 Inv-search μ-search
 add-looks-2 c =
@@ -129,32 +152,32 @@ add-looks-5 c =
     omega (arith, looked (l .0))
 
 sub-last-2 : tie.Need-sub-last-2 Inv-loop μ-loop Inv-loop2 μ-loop2 Inv-search μ-search
-sub-last-2 c = omega (arith, c .before .before .before .before .loop2 .inv .1)
+sub-last-2 c = within (c .before .before .before .before .before .before .before .before .loop .last - (c .before .before .before .before .before .before .before .before .before .before .before .args .n - 1)) _ _ (omega arith)
 
 add-last-2 : tie.Need-add-last-2 Inv-loop μ-loop Inv-loop2 μ-loop2 Inv-search μ-search
 add-last-2 c =
     let l = c .before .before .before .before .loop2 .inv in
-    record { fits = fits-next _ (c .before .clear-above .result) _ _ (l .3) (l .0 .ends) (omega arith) (omega arith) }
+    record { fits = fits-next _ (c .before .clear-above .result) _ _ (below (l .1) (l .3)) (l .0 .ends) (omega arith) (omega arith) }
 
 search-less : tie.Need-search-less Inv-loop μ-loop Inv-loop2 μ-loop2 Inv-search μ-search
 search-less c =
     let l = c .before .before .before .before .loop2 .inv in
     let k = c .before .before .before .before .before .before .before .before .loop .inv in
-    less _ _ _ (behind _ _ _ _ _ _ (l .1) (omega arith) (l .2) (k .2)) (omega (arith, l .0 .ends, l .2, k .2))
+    less _ _ _ (behind _ _ _ _ _ _ (low (l .1)) (omega arith) (l .2) (k .2)) (omega (arith, l .0 .ends, l .2, k .2))
 
 search-again : tie.Need-search-again Inv-loop μ-loop Inv-loop2 μ-loop2 Inv-search μ-search
 search-again c =
     let l = c .before .before .before .before .loop2 .inv in
     let d = one-down _ _ (c .before .before .before .digits-down .ensures) (c .before .clear-above .ensures) (c .before .before .if3 .taken) in
     let sum : c .before .before .before .before .loop2 .looks + (c .before .clear-above .result + 1) ≡ c .before .before .before .before .loop2 .looks + c .before .clear-above .result + 1 = omega arith in
-    let k = rest-of _ (c .before .before .before .before .loop2 .at) (c .before .clear-above .result) (l .1) (omega arith) in
-    (omega arith, rw sum (sought-next _ _ _ (k .0) (looking-more _ _ _ (l .1) (l .0) _ _ (k .1) (d .0 .clear)) (d .1) _ (next-start _ _ (omega arith))))
+    let k = rest-of _ (c .before .before .before .before .loop2 .end - 1) (c .before .clear-above .result) (low (l .1)) (omega arith) in
+    (omega arith, rw sum (sought-next _ _ _ (k .0) (looking-more _ _ _ (low (l .1)) (l .0) _ _ (k .1) (d .0 .clear)) (d .1) _ (next-start _ _ (omega arith))))
 
-sub-if5 : tie.Need-sub-if5 Inv-loop μ-loop Inv-loop2 μ-loop2 Inv-search μ-search
-sub-if5 c = c .before .before .loop2 .inv .1
+mul-end : tie.Need-mul-end Inv-loop μ-loop Inv-loop2 μ-loop2 Inv-search μ-search
+mul-end c = let l = c .before .before .loop2 .inv in omega (arith, l .0 .ends, l .3)
 
 sub-looks-2 : tie.Need-sub-looks-2 Inv-loop μ-loop Inv-loop2 μ-loop2 Inv-search μ-search
-sub-looks-2 c = c .before .before .before .loop2 .inv .1
+sub-looks-2 c = low (c .before .before .before .loop2 .inv .1)
 
 add-looks-6 : tie.Need-add-looks-6 Inv-loop μ-loop Inv-loop2 μ-loop2 Inv-search μ-search
 add-looks-6 c =
@@ -166,28 +189,30 @@ add-looks-7 c =
     let l = c .before .before .before .loop2 .inv in
     omega (arith, looked (l .0))
 
+sub-looks-3 : tie.Need-sub-looks-3 Inv-loop μ-loop Inv-loop2 μ-loop2 Inv-search μ-search
+sub-looks-3 c = word-bits _ .0
+
 add-looks-8 : tie.Need-add-looks-8 Inv-loop μ-loop Inv-loop2 μ-loop2 Inv-search μ-search
-add-looks-8 c = omega arith
+add-looks-8 c = omega (arith, word-bits (c .before .before .before .loop2 .end - 1) .1)
 
 add-looks-9 : tie.Need-add-looks-9 Inv-loop μ-loop Inv-loop2 μ-loop2 Inv-search μ-search
 add-looks-9 c =
     let l = c .before .before .before .loop2 .inv in
-    omega (arith, looked (l .0))
-
-add-at : tie.Need-add-at Inv-loop μ-loop Inv-loop2 μ-loop2 Inv-search μ-search
-add-at c = omega arith
-
-sub-at : tie.Need-sub-at Inv-loop μ-loop Inv-loop2 μ-loop2 Inv-search μ-search
-sub-at c = omega (arith, c .before .before .before .loop2 .inv .1)
+    omega (arith, looked (l .0), word-bits (c .before .before .before .loop2 .end - 1) .1)
 
 loop2-less : tie.Need-loop2-less Inv-loop μ-loop Inv-loop2 μ-loop2 Inv-search μ-search
-loop2-less c = omega (arith, c .before .before .before .loop2 .inv .1)
+loop2-less c = omega (arith, word-bits (c .before .before .before .loop2 .end - 1) .0, c .before .before .before .loop2 .inv .1)
 
 loop2-again : tie.Need-loop2-again Inv-loop μ-loop Inv-loop2 μ-loop2 Inv-search μ-search
 loop2-again c =
     let l = c .before .before .before .loop2 .inv in
-    let d = all-down _ _ (sym (c .before .before .digits-down .ensures) ∙ c .before .if3 .left) in
-    (looking-more _ _ _ (l .1) (l .0) _ _ (omega (arith, l .1)) (d .clear), omega (arith, l .1), l .2, omega (arith, l .3))
+    let at = c .before .before .before .loop2 .end - 1 in
+    let d = all-down _ _ (sym (c .before .before .digits-down .ensures) ∙ c .before .if3 .left) in (
+      looking-more _ _ _ (low (l .1)) (l .0) _ _ (word-rest _ _ _ (word-bits at .0) (omega arith)) (λ j h. d .clear j (omega (arith, word-bits at .1))),
+      omega arith,
+      l .2,
+      omega (arith, l .1, l .3, word-bits at .0),
+    )
 
 returns : tie.Need-returns Inv-loop μ-loop Inv-loop2 μ-loop2 Inv-search μ-search
 returns c =
@@ -198,13 +223,13 @@ returns-2 : tie.Need-returns-2 Inv-loop μ-loop Inv-loop2 μ-loop2 Inv-search μ
 returns-2 c =
     let l = c .before .before .before .before .loop2 .inv in
     let d = one-down _ _ (c .before .before .before .digits-down .ensures) (c .before .clear-above .ensures) (c .before .before .if3 .taken) in
-    found _ _ _ (omega arith) (looking-more _ _ _ (l .1) (l .0) _ 0 (omega arith) (λ j h. d .0 .clear j (omega arith)))
+    found _ _ _ (omega arith) (looking-more _ _ _ (low (l .1)) (l .0) _ 0 (omega arith) (λ j h. d .0 .clear j (omega arith)))
 
 returns-3 : tie.Need-returns-3 Inv-loop μ-loop Inv-loop2 μ-loop2 Inv-search μ-search
 returns-3 c =
     let l = c .before .before .before .loop2 .inv in
     let d = all-down _ _ (sym (c .before .before .digits-down .ensures) ∙ c .before .if3 .left) in
-    found _ _ _ (omega arith) (looking-more _ _ _ (l .1) (l .0) _ 0 (omega arith) (λ j h. d .clear j (omega arith)))
+    found _ _ _ (omega arith) (looking-more _ _ _ (low (l .1)) (l .0) _ 0 (omega arith) (λ j h. d .clear j (omega arith)))
 
 pub lowest-run-spec : {M : Type 1} → statement M
 lowest-run-spec =
@@ -226,7 +251,9 @@ lowest-run-spec =
     loop-again
     sub-start
     sub-start-2
+    add-end
     loop2-holds
+    sub-at
     digits-down-requires
     clear-above-requires
     sub-if4
@@ -239,14 +266,13 @@ lowest-run-spec =
     add-last-2
     search-less
     search-again
-    sub-if5
+    mul-end
     sub-looks-2
     add-looks-6
     add-looks-7
+    sub-looks-3
     add-looks-8
     add-looks-9
-    add-at
-    sub-at
     loop2-less
     loop2-again
     returns
