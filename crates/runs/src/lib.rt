@@ -43,17 +43,21 @@ pub fn lowest_run(map: &[u64], n: usize, bits: usize) -> Found
     let mut looks = 0;
     let found = 'search: loop {
         loop {
-            if bits <= last {
-                break 'search bits;
-            }
             if bitmap::bit(map, last) == 0 {
                 break;
             }
             looks += 1;
             last += n;
+            if bits <= last {
+                break 'search bits;
+            }
         }
         let start = last - (n - 1);
-        let mut end = last + 1;
+        looks += 1;
+        if n <= 1 {
+            break 'search start;
+        }
+        let mut end = last;
         loop {
             let at = end - 1;
             let digits = digits_down(map, at);
@@ -64,7 +68,11 @@ pub fn lowest_run(map: &[u64], n: usize, bits: usize) -> Found
                     break 'search start;
                 }
                 looks += clear + 1;
-                last = at - clear + n;
+                let used = at - clear;
+                if bits - n <= used {
+                    break 'search bits;
+                }
+                last = used + n;
                 continue 'search;
             }
             end = at / 64 * 64;
