@@ -29,7 +29,7 @@ use Rattle.callers.specs.Caller.{caller-refused, called-rest}
 use Rattle.model.proofs.PlacedWords.{supplied-lengths}
 use Rattle.objects.specs.Fits.{fits-stores}
 use Rattle.objects.specs.Places.{AreaWords, area-words}
-use Rattle.objects.specs.Stores.{StoreWritten, stored-memory}
+use Rattle.stores.specs.Stores.{StoreWritten, stored-memory}
 
 -- refusals 5 and 12, from whether the thread may allocate in the area and from the area's record
 unfoldable pub areaRest : Bool → Area → ℕ → ℕ → ℕ

@@ -1,6 +1,4 @@
 // Op 06: an object is allocated in the current area of a thread.
-mod zeros; // zeros.rt: a run of zeros
-
 use layout::answer::Answer;
 use layout::handle;
 use model::Area;
@@ -8,58 +6,10 @@ use rights::Right;
 use tables::Bytes;
 use tables::Words;
 ghost use mathlib.Core.Path.{_≡_};
-ghost use Prim.Native.Nat.{_+_, _*_, _≤_, min};
-ghost use lib.ListN.{length};
-ghost use Rattle.bitmap.specs.Bitmap.{wordsHolding};
-ghost use Rattle.model.specs.Objects.{objectWords, objectBits};
+ghost use Prim.Native.Nat.{_≤_, min};
 ghost use Rattle.model.specs.Calls as calls;
 ghost use Rattle.tables.specs.Contract.{stateIn, Usable, Answers};
-ghost use Rattle.objects.specs.Stores.{storeIn, Stores};
 ghost use Rattle.allocation.specs.Allocation.{areaRest, HasRoom, MakesObject, Lent};
-
-// The words of an object of a store: its header, and 0 in its slots and its data. The header is written first, so that
-// what it is made of need not be kept while the zeros are written.
-fn write_object(store: &mut [u64], at: usize, slots: u64, data_words: u64)
-    requires { ⌜ (at + 1 + slots + data_words ≤ length (now store)) × (at + 1 + slots + data_words ≤ 16384) ⌝ }
-    ensures { λ r. ⌜ now (store .exit) ≡ objectWords (now (store .entry)) at slots data_words ⌝ }
-{
-    store[at] = handle::header(slots, data_words);
-    let n = (slots + data_words) as usize;
-    if n == 0 {
-        return;
-    }
-    zeros::zero_words(store, at + 1, n);
-}
-
-// The words of an object in the store that has an area's words.
-fn put_object(
-    permanent: &mut [u64],
-    scratch: &mut [u64],
-    area: u64,
-    at: usize,
-    slots: u64,
-    data_words: u64,
-)
-    requires { ⌜ (at + 1 + slots + data_words ≤ length (storeIn permanent scratch area)) × (at + 1 + slots + data_words ≤ 16384) ⌝ }
-    ensures { λ r. ⌜ Stores permanent scratch area (λ l. objectWords l at slots data_words) ⌝ }
-{
-    if area < 2 {
-        write_object(permanent, at, slots, data_words);
-        return;
-    }
-    write_object(scratch, at, slots, data_words);
-}
-
-// The map bits of an object: 1 for the header, 0 for the n words after it. All of them are cleared first, in one iteration
-// for each map word that holds them; it yields how many that were.
-fn mark_object(map: &mut [u64], bit: usize, n: usize) -> usize
-    requires { ⌜ (bit + 1 + n ≤ 64 * length (now map)) × (bit + 1 + n ≤ 32768) ⌝ }
-    ensures { λ r. ⌜ (now (map .exit) ≡ objectBits (now (map .entry)) bit n) × (r ≡ wordsHolding bit (n + 1)) ⌝ }
-{
-    let iterations = bitmap::clear_bits(map, bit, n + 1);
-    bitmap::set_bit(map, bit / 64, bit);
-    iterations
-}
 
 fn smaller(a: u64, b: u64) -> u64
     ensures { λ r. ⌜ r ≡ min a b ⌝ }
@@ -118,10 +68,10 @@ fn apply_allocate(
     };
     held_areas::put_area(words, area as usize, next);
     let at = (x.start + x.used) as usize;
-    let bit = objects::bit_index(permanent.len(), area, at);
-    put_object(permanent, scratch, area, at, slots, data_words);
+    let bit = stores::bit_index(permanent.len(), area, at);
+    initialization::put_object(permanent, scratch, area, at, slots, data_words);
     let n = (slots + data_words) as usize;
-    mark_object(map, bit, n);
+    initialization::mark_object(map, bit, n);
     bitmap::clear_bits(written, bit, n + 1);
     handle::pack(x.used, area, x.generation)
 }

@@ -21,7 +21,7 @@ use Rattle.tables.specs.Contract.{memoryOf}
 use Rattle.objects.specs.declared.index.Part.the-variants.{Data}
 use Rattle.objects.specs.declared.index.WordPlace.{WordPlace}
 use Rattle.objects.specs.Fits.{fits-stores}
-use Rattle.objects.specs.Stores.{StoreWritten}
+use Rattle.stores.specs.Stores.{StoreWritten}
 use Rattle.objects.specs.Indexed.{wordOf}
 use Rattle.objects.specs.Statuses.{index-chain}
 use Rattle.objects.specs.Effects.{bit-in, word-written}

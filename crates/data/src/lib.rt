@@ -33,7 +33,7 @@ pub fn write(
     match objects::check_index(words, bytes, permanent, scratch, map, t, p, Part::Data, q) {
         Indexed::Refused(status) => Answer { status, value: 0 },
         Indexed::At(w) => {
-            objects::put_word(permanent, scratch, w.area, w.at, word);
+            stores::put_word(permanent, scratch, w.area, w.at, word);
             bitmap::set_bit(written, w.bit / 64, w.bit);
             let value = 0; // none is named
             Answer { status: 0, value }
@@ -76,7 +76,7 @@ pub fn read<'a>(
                     value: 0,
                 };
             }
-            let word = objects::word_at(permanent, scratch, w.area, w.at);
+            let word = stores::word_at(permanent, scratch, w.area, w.at);
             Answer {
                 status: 0,
                 value: word,

@@ -23,6 +23,7 @@ use Rattle.tables.specs.Decode.{stateOf, areaRecord, threadRecord}
 use Rattle.tables.specs.Laws.{area-read, len-read}
 use Rattle.callers.specs.Caller.{thread-refused, called-rest}
 use Rattle.callers.specs.Stack.{topEntryOf}
+use Rattle.opening.specs.Entered.{Enterable}
 use Rattle.model.proofs.Bounds.{inner-area, count-bound}
 use Rattle.model.proofs.KeepsEnter.{inner-depth}
 
@@ -38,25 +39,6 @@ unfoldable pub scopeRest : Area → ℕ → ℕ
 scopeRest x inner =
     refuse (ltb 0 (x .count) && not (eqb (x .parent) inner)) 10
     (refuse (not (ltb 0 (x .count)) && leb lastGeneration (x .generation)) 17 0)
-
--- what an accepted entry has
-pub record Enterable (s : State) (t q : ℕ) : Type 0 where
-  pub thread : t < 16
-  pub room : threadAt s t .len < 32
-  pub area : q < 64
-  pub parent : innermost (stackAt s t) < 64
-  pub depth : areaAt s (innermost (stackAt s t)) .depth < 32
-  pub count : areaAt s q .count ≤ 512
-  pub generation : 2 ≤ q → areaAt s q .count ≡ 0 → areaAt s q .generation < lastGeneration
-
--- an entry on a stack, with the innermost scope as of it
-unfoldable pub pushedState : State → ℕ → ℕ → ℕ → State
-pushedState s t q inner = withThread s t (record {
-  kind = threadAt s t .kind;
-  len = suc (threadAt s t .len);
-  entries = set (threadAt s t .entries) (threadAt s t .len) q;
-  inner = set (threadAt s t .inner) (threadAt s t .len) inner;
-})
 
 -- ---- 10 and 17 over numbers
 
@@ -175,17 +157,3 @@ module _ (w b : List ℕ) (t q : ℕ) (hq : q < 64) {x : Area} (ex : x ≡ areaR
 
       pub place-left : h .len < 32 → 0 ≡ thereRest (stateOf w b) t q 0
       place-left k = sym (past-5 ∙ skip (leb 32 (h .len)) 9 0 (lt-leb 32 (h .len) k))
-
--- what an accepted entry has, from what is read of the areas
-module _ (s : State) (t q : ℕ) (k : Enterable s t q) where
-  pub count-room : {x : Area} → x ≡ areaAt s q → x .count < 1024
-  count-room e = rw e (omega (arith, k .count))
-
-  pub generation-room : {x : Area} → x ≡ areaAt s q → 2 ≤ q → areaAt s q .count ≤ 0 → x .generation < lastGeneration
-  generation-room e h n = rw e (k .generation h (omega arith))
-
-  pub parent-room : (p : ℕ) → p ≡ innermost (stackAt s t) → p < 64
-  parent-room p i = rw i (k .parent)
-
-  pub depth-room : (p : ℕ) {x : Area} → p ≡ innermost (stackAt s t) → x ≡ areaAt s p → x .depth < 32
-  depth-room p i e = rw (e, i) (k .depth)

@@ -1,3 +1,2 @@
 -- The laws of op 04.
 pub mod Enter
-pub mod Entered

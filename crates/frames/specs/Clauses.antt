@@ -2,7 +2,7 @@
 -- Assumes nothing.
 use denote.Ref.{now}
 use Rattle.tables.specs.Contract.{Borrowed}
-use Rattle.reader.specs.Clauses.{coreIn, coreOut}
+use Rattle.line_answers.specs.Clauses.{coreIn, coreOut}
 use Rattle.frames.specs.declared.Ended.{Ended}
 use Rattle.frames.specs.Progress.{Ran}
 

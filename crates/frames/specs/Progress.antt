@@ -5,9 +5,10 @@ use mathlib.Core.Path.{_≡_}
 use mathlib.Core.Bool.{Bool, true, false}
 use mathlib.Core.List.{List, [], _∷_, _++_}
 use lib.ListN.{length, take}
-use Rattle.reader.specs.Output.{firstWorld}
+use Rattle.line_answers.specs.Output.{firstWorld}
 use Rattle.reader.specs.Feeding.{joined}
-use Rattle.reader.specs.Held.{Core, Represents, held, Finishes}
+use Rattle.line_answers.specs.Answered.{Core, Represents}
+use Rattle.reader.specs.Held.{held, Finishes}
 use Rattle.reader.specs.Program.{FedChunks}
 use Rattle.rounds.specs.Steps.{Wrote}
 use Rattle.frames.specs.declared.Ended.{Ended}

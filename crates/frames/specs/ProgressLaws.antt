@@ -9,9 +9,10 @@ use lib.Dec.{leb}
 use borrow.Author.Tests.{leb-true, leb-false}
 use lib.ListN.{length, take, length-append}
 use lib.Seq.{length-take-le}
-use Rattle.reader.specs.Output.{firstWorld}
+use Rattle.line_answers.specs.Output.{firstWorld}
 use Rattle.reader.specs.Feeding.{joined}
-use Rattle.reader.specs.Held.{Core, Represents, held, Feeds, Finishes}
+use Rattle.line_answers.specs.Answered.{Core, Represents}
+use Rattle.reader.specs.Held.{held, Feeds, Finishes}
 use Rattle.reader.specs.Program.{FedChunks, none, more}
 use Rattle.rounds.specs.Steps.{Read, read, unread, Wrote, wrote, unwritten}
 use Rattle.frames.specs.declared.Ended.{Ended}

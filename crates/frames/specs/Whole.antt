@@ -6,9 +6,9 @@ use mathlib.Core.List.{List, [], _++_, append-nil}
 use lib.ListN.{take}
 use Rattle.model.specs.Run.{run}
 use Rattle.lines.specs.LineLaws.{buffered-none}
-use Rattle.reader.specs.Output.{firstWorld, linesOf, outputOf}
+use Rattle.line_answers.specs.Output.{firstWorld, linesOf, outputOf}
 use Rattle.reader.specs.Feeding.{Feeding, fed, finished, joined, fed-chunks}
-use Rattle.reader.specs.Held.{Core, Represents}
+use Rattle.line_answers.specs.Answered.{Core, Represents}
 use Rattle.reader.specs.Program.{After, fed-after, program}
 use Rattle.served.specs.Input.{elementsOf}
 use Rattle.served.proofs.Reader.{CoreClaims, chunks-claims, program-claims}

@@ -18,8 +18,8 @@ ghost use mathlib.Core.Path.{_≡_};
 ghost use Prim.Native.Nat.{_*_, _≤_};
 ghost use lib.ListN.{length, replicate};
 ghost use Rattle.tables.specs.Contract.{Ready};
-ghost use Rattle.reader.specs.Output.{firstWorld};
-ghost use Rattle.reader.specs.Held.{core, Represents};
+ghost use Rattle.line_answers.specs.Output.{firstWorld};
+ghost use Rattle.line_answers.specs.Answered.{core, Represents};
 ghost use Rattle.frames.specs.Progress.{Continues};
 ghost use Rattle.frames.specs.Clauses.{AllAnswered};
 

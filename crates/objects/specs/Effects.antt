@@ -20,7 +20,7 @@ use Rattle.objects.specs.declared.index.WordPlace.{WordPlace}
 use Rattle.objects.specs.Fits.{StoresFitIn}
 use Rattle.objects.specs.Found.{objectOf}
 use Rattle.objects.specs.Places.{Lies, lies}
-use Rattle.objects.specs.Stores.{StoreWritten, stored-memory}
+use Rattle.stores.specs.Stores.{StoreWritten, stored-memory}
 use Rattle.objects.specs.Indexed.{partCount, partStart, indexRest, wordIndex, wordOf}
 use Rattle.objects.specs.Statuses.{area-is, slots-is, index-ok}
 

@@ -3,7 +3,6 @@ pub mod Fits
 pub mod Found
 pub mod Places
 pub mod Steps
-pub mod Stores
 pub mod Checked
 pub mod Indexed
 pub mod Resolving

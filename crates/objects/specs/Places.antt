@@ -17,6 +17,7 @@ use Rattle.model.specs.State.{State, Memory, areaAt, isScope, isOpen, storeOf, 
 use Rattle.model.specs.Checks.{headerAt, live, isObject, isReference}
 use Rattle.model.specs.Invariant.{Good}
 use Rattle.model.proofs.PlacedWords.{inside}
+use Rattle.stores.specs.Stores.{pick-most}
 use Rattle.objects.specs.declared.find.Resolved.{Resolved}
 use Rattle.objects.specs.declared.find.Found.{Found}
 use Rattle.objects.specs.declared.find.Found.the-variants.{At, Nothing}
@@ -24,11 +25,6 @@ use Rattle.objects.specs.Fits.{StoresFitIn}
 use Rattle.objects.specs.Found.{objectOf, foundOf, RefusedAs}
 
 -- ---- the words of an area
-
--- the bits before those of a store are no more than the permanent words
-pub pick-most : (b : Bool) (n : ℕ) → pick b n 0 ≤ n
-pick-most true n = omega arith
-pick-most false n = omega arith
 
 -- where the words of area a lie: in its store, and in the map from a bit on
 pub record AreaWords (s : State) (m : Memory) (a : ℕ) : Type 0 where

@@ -19,9 +19,10 @@ use Rattle.model.specs.Invariant.{Good}
 use Rattle.tables.specs.Decode.{stateOf}
 use Rattle.tables.specs.Contract.{Ready}
 use Rattle.objects.specs.declared.find.Found.the-variants.{At, Nothing}
+use Rattle.stores.specs.Stores.{pick-most}
 use Rattle.objects.specs.Fits.{StoresFitIn}
 use Rattle.objects.specs.Found.{objectOf, foundOf, endsOf}
-use Rattle.objects.specs.Places.{pick-most, AreaWords, area-words, found-at, found-nothing}
+use Rattle.objects.specs.Places.{AreaWords, area-words, found-at, found-nothing}
 
 -- ---- the last step
 

@@ -1,5 +1,4 @@
 // The object that a handle leads to, if it is live.
-use crate::store;
 use layout::handle;
 use tables::Bytes;
 use tables::Words;
@@ -57,8 +56,8 @@ pub fn lookup<'a>(
 {
     let area = handle::area(handle);
     let offset = handle::offset(handle);
-    let store = store::store_of(permanent, scratch, area);
-    let first = store::first_bit(permanent.len(), area);
+    let store = stores::store_of(permanent, scratch, area);
+    let first = stores::first_bit(permanent.len(), area);
     let x = held_areas::area_at(words, area as usize);
     if handle::generation(handle) != x.generation {
         return Found::Nothing;

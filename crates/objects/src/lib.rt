@@ -1,5 +1,4 @@
-// What a handle leads to, and the words of an object.
-mod store; // store.rt: the words of an area
+// What a handle leads to, and what calls on an object have in common.
 mod find; // find.rt: the object that a handle leads to
 mod check; // check.rt: refusals 13 and 5 of a call on an object
 mod index; // index.rt: refusal 14 of a call on a word of an object
@@ -13,6 +12,3 @@ pub use index::Indexed;
 pub use index::Part;
 pub use index::WordPlace;
 pub use index::check_index;
-pub use store::bit_index;
-pub use store::put_word;
-pub use store::word_at;

@@ -7,7 +7,7 @@ use mathlib.Core.List.{List, [], _∷_, _++_, append-assoc, append-nil}
 use lib.Dec.{eqb}
 use Rattle.layout.specs.Choice.{pick, cases, pick-true, pick-false}
 use Rattle.model.specs.Run.{World}
-use Rattle.reader.specs.Output.{lineAnswer, afterLine, linesOf, answersOf, firstWorld, outputOf}
+use Rattle.line_answers.specs.Output.{lineAnswer, afterLine, linesOf, answersOf, firstWorld, outputOf}
 
 -- what feeding leaves: the output so far, the world after the lines that ended, and the line so far
 pub record Feeding : Type 0 where

@@ -6,44 +6,12 @@ use Prim.Native.Nat.{ℕ, _+_, _*_, _≤_}
 use native.Mathlib.Omega.{arith}
 use lib.ListN.{length, length-append}
 use lib.Seq.{sets}
-use Rattle.layout.specs.declared.answer.Answer.{Answer}
 use Rattle.model.specs.Run.{World}
-use Rattle.tables.specs.Decode.{stateOf}
-use Rattle.tables.specs.Contract.{memoryOf, Ready}
-use Rattle.lines.specs.Answers.{answerOf}
-use Rattle.reader.specs.Output.{lineAnswer, afterLine}
+use Rattle.tables.specs.Contract.{Ready}
 use Rattle.lines.specs.Lines.{Buffered}
+use Rattle.line_answers.specs.Answered.{Core, Represents}
 use Rattle.reader.specs.Feeding.{Feeding, after, fed, finished, fed-none, fed-append}
 use Rattle.lines.specs.AnswerLaws.{sets-sets}
-
--- the tables and the four lent buffers
-pub record Core : Type 0 where
-  pub words : List ℕ
-  pub bytes : List ℕ
-  pub permanent : List ℕ
-  pub scratch : List ℕ
-  pub map : List ℕ
-  pub written : List ℕ
-
-abbrev pub core : List ℕ → List ℕ → List ℕ → List ℕ → List ℕ → List ℕ → Core
-core w b p s m x = record { words = w; bytes = b; permanent = p; scratch = s; map = m; written = x }
-
--- they hold the state and the memory of a world
-pub record Represents (k : Core) (w : World) : Type 0 where
-  pub state : stateOf (k .words) (k .bytes) ≡ w .state
-  pub memory : memoryOf (k .permanent) (k .scratch) (k .map) (k .written) ≡ w .memory
-
--- a line is answered
-pub record LineAnswered (k n : Core) (line : List ℕ) (len : ℕ) (a : Answer) : Type 0 where
-  pub ready : Ready (n .words) (n .bytes)
-  pub answer-is : (w : World) (l : List ℕ) → Represents k w → Buffered line len l → answerOf (a .status) (a .value) ≡ lineAnswer w l
-  pub steps : (w : World) (l : List ℕ) → Represents k w → Buffered line len l → Represents n (afterLine w l)
-
--- a line is answered, and the answer is written from place at on
-pub record Ended (k n : Core) (line : List ℕ) (len : ℕ) (out : List ℕ) (at : ℕ) (written : List ℕ) : Type 0 where
-  pub ready : Ready (n .words) (n .bytes)
-  pub output-is : (w : World) (l : List ℕ) → Represents k w → Buffered line len l → written ≡ sets out at (lineAnswer w l)
-  pub steps : (w : World) (l : List ℕ) → Represents k w → Buffered line len l → Represents n (afterLine w l)
 
 -- the core, the line so far, and the output with the place of the next answer
 pub record Held : Type 0 where

@@ -1,6 +1,6 @@
--- Laws of what is held: a line answered in each case, a byte fed in each case, and the end of input.
+-- Laws of what is held: a byte fed in each case, and the end of input.
 -- Assumes nothing.
-use mathlib.Core.Path.{_≡_, refl, sym, ap, ap₂, _∙_, subst}
+use mathlib.Core.Path.{_≡_, refl, sym, ap, _∙_, subst}
 use mathlib.Core.List.{List, [], _∷_, _++_, append-nil}
 use Prim.Native.Nat.{ℕ, _+_, _<_}
 use native.Mathlib.Omega.{arith}
@@ -8,85 +8,19 @@ use lib.Dec.{eqb}
 use borrow.Author.Tests.{eq-eqb, ne-eqb}
 use native.Mathlib.Numerals.{add-one}
 use lib.ListN.{length, take, getD, replicate, length-replicate}
-use lib.Seq.{sets, take-suc}
+use lib.Seq.{take-suc}
 use Rattle.layout.specs.Choice.{pick-true}
-use Rattle.layout.specs.declared.answer.Answer.{Answer}
 use Rattle.model.specs.declared.Lengths.{Lengths}
-use Rattle.model.specs.State.{State, Memory}
-use Rattle.model.specs.Calls.{Reply, outcomeOf}
 use Rattle.model.specs.SetUp.{lengthsOf, setUpStatus, setUpState, firstState}
 use Rattle.model.specs.Run.{World, begin}
 use Rattle.setup.specs.First.{Begun, prepared}
-use Rattle.tables.specs.Decode.{stateOf}
-use Rattle.tables.specs.Contract.{memoryOf, Ready, plain, Answered}
-use Rattle.tables.specs.AnsweredLaws.{step-kept}
-use Rattle.lines.specs.declared.frame.Fields.{Fields}
-use Rattle.lines.specs.declared.frame.Parsed.{Parsed}
-use Rattle.lines.specs.declared.frame.Parsed.the-variants.{Frame, Bad}
-use Rattle.lines.specs.Answers.{answerOf}
-use Rattle.reader.specs.Output.{frameCall, answerTo, following, lineAnswer, afterLine, firstWorld}
-use Rattle.lines.specs.AnswerLaws.{length-answer}
-use Rattle.lines.specs.Frames.{parsedOf}
+use Rattle.tables.specs.Contract.{memoryOf, Ready}
+use Rattle.line_answers.specs.Output.{lineAnswer, afterLine, firstWorld}
+use Rattle.line_answers.specs.Answered.{Core, core, Represents, Ended, length-line}
 use Rattle.lines.specs.Lines.{Buffered}
 use Rattle.lines.specs.LineLaws.{buffered-none}
 use Rattle.reader.specs.Feeding.{finished, finished-none, finished-rest, fed-none, fed-end, fed-other}
-use Rattle.reader.specs.Held.{Core, core, Represents, LineAnswered, Ended, Held, held, LeavesFed, Feeds, Finishes, feeds-append}
-
--- the world that tables and buffers hold
-represented : (k : Core) (w : World) → Represents k w
-    → w ≡ record { state = stateOf (k .words) (k .bytes); memory = memoryOf (k .permanent) (k .scratch) (k .map) (k .written); trace = w .trace }
-represented k w s = rw (s .state, s .memory) refl
-
--- ---- a line answered
-
--- an answer is 19 bytes
-length-to : (w : World) (x : Parsed) → length (answerTo w x) ≡ 19
-length-to w (Frame f) = length-answer _ _
-length-to w Bad = length-answer 18 0
-
-length-line : (w : World) (l : List ℕ) → length (lineAnswer w l) ≡ 19
-unfolding lineAnswer
-length-line w l = length-to w (parsedOf l)
-
--- any other line gives 18 and changes nothing
-pub answered-bad : (k : Core) (line : List ℕ) (len : ℕ) (r : Parsed) → Ready (k .words) (k .bytes) → r ≡ Bad
-    → ((l : List ℕ) → Buffered line len l → r ≡ parsedOf l) → LineAnswered k k line len (record { status = 18; value = 0 })
-unfolding lineAnswer afterLine
-answered-bad k line len r y e m = record {
-  ready = y;
-  answer-is = λ w l s h. ap (answerTo w) (sym e ∙ m l h);
-  steps = λ w l s h. subst (λ (x : Parsed). Represents k (following w x)) (sym e ∙ m l h) s;
-}
-
--- a frame's call is carried out, as the core promises of a call of any op
-pub answered-frame : (k n : Core) (line : List ℕ) (len : ℕ) (r : Parsed) (f : Fields) (a : Answer) → r ≡ Frame f
-    → ((l : List ℕ) → Buffered line len l → r ≡ parsedOf l)
-    → Answered (k .words) (k .bytes) (memoryOf (k .permanent) (k .scratch) (k .map) (k .written)) (frameCall f)
-    (plain (a .status) (a .value)) (n .words) (n .bytes) (memoryOf (n .permanent) (n .scratch) (n .map) (n .written))
-    → LineAnswered k n line len a
-unfolding lineAnswer afterLine
-answered-frame k n line len r f a e m d = record {
-  ready = d .ready;
-  answer-is = λ w l s h.
-      ap (λ (x : Reply). answerOf (x .status) (x .value)) (d .reply-is)
-      ∙ ap₂ (λ (x : State) (y : Memory). answerOf (outcomeOf x y (frameCall f) .reply .status) (outcomeOf x y (frameCall f) .reply .value)) (s .state) (s .memory)
-      ∙ ap (answerTo w) (sym e ∙ m l h);
-  steps = λ w l s h. subst (λ (x : Parsed). Represents n (following w x)) (sym e ∙ m l h) (stepped w s);
-}
-  where
-    stepped : (w : World) → Represents k w → Represents n (following w (Frame f))
-    stepped w s =
-        rw (represented k w s, step-kept (k .words) (k .bytes) (n .words) (n .bytes) (w .trace) (frameCall f) (plain (a .status) (a .value)) _ _ d)
-        (record { state = refl; memory = refl })
-
--- the answer is written
-pub ended : (k n : Core) (line : List ℕ) (len : ℕ) (a : Answer) (out : List ℕ) (at : ℕ) (written : List ℕ)
-    → LineAnswered k n line len a → written ≡ sets out at (answerOf (a .status) (a .value)) → Ended k n line len out at written
-ended k n line len a out at written d e = record {
-  ready = d .ready;
-  output-is = λ w l s h. e ∙ ap (sets out at) (d .answer-is w l s h);
-  steps = d .steps;
-}
+use Rattle.reader.specs.Held.{Held, held, LeavesFed, Feeds, Finishes, feeds-append}
 
 -- ---- a byte
 

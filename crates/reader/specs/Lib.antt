@@ -1,5 +1,4 @@
--- The answers to a whole input, and what is held between two chunks of it.
-pub mod Output
+-- An input that comes in chunks, and what is held between two chunks of it.
 pub mod Feeding
 pub mod Held
 pub mod HeldLaws

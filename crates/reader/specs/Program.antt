@@ -8,11 +8,12 @@ use mathlib.Core.List.{List, [], _∷_, _++_}
 use lib.ListN.{length, take, drop}
 use lib.Seq.{sets, sets-eq, take-append-seam}
 use Rattle.model.specs.Run.{World}
-use Rattle.reader.specs.Output.{firstWorld, outputOf}
+use Rattle.line_answers.specs.Output.{firstWorld, outputOf}
 use Rattle.lines.specs.Lines.{Buffered}
 use Rattle.lines.specs.LineLaws.{buffered-none}
 use Rattle.reader.specs.Feeding.{Feeding, fed, finished, fedAll, joined, fed-output}
-use Rattle.reader.specs.Held.{Core, Represents, Held, held, LeavesFed, Feeds, Finishes}
+use Rattle.line_answers.specs.Answered.{Core, Represents}
+use Rattle.reader.specs.Held.{Held, held, LeavesFed, Feeds, Finishes}
 
 -- Chunk after chunk: each is fed to what the one before it left, with an output that has room for it and is written as far as it goes.
 pub data FedChunks : Core → List ℕ → ℕ → List (List ℕ) → List ℕ → Core → List ℕ → ℕ → Type 0 where

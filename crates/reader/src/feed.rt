@@ -1,7 +1,5 @@
 // Feeding: the input comes in chunks, each line that ends is answered, and the line so far waits for
 // the next chunk.
-use layout::answer::Answer;
-use lines::frame::Parsed;
 use lines::line::Text;
 use tables::Bytes;
 use tables::Words;
@@ -10,68 +8,12 @@ ghost use mathlib.Core.List.{[], _∷_};
 ghost use Prim.Native.Nat.{_+_, _*_, _≤_};
 ghost use lib.ListN.{length};
 ghost use Rattle.tables.specs.Contract.{Ready};
-ghost use Rattle.reader.specs.Clauses.{LineReplied, LineEnded, BytesFed, InputEnded};
+ghost use Rattle.reader.specs.Clauses.{BytesFed, InputEnded};
 
 // How many bytes the line so far has (41 for every longer line), and how many were written.
 pub struct Fed {
     pub len: usize,
     pub written: usize,
-}
-
-// Answers a line: a frame's call is carried out; any other line gives 18 and changes nothing.
-fn answer_line(
-    words: &mut Words,
-    bytes: &mut Bytes,
-    permanent: &mut [u64],
-    scratch: &mut [u64],
-    map: &mut [u64],
-    written: &mut [u64],
-    line: &Text,
-    len: usize,
-) -> Answer
-    requires { ⌜ (Ready (now words) (now bytes)) × (length (now line) ≡ 40) ⌝ }
-    ensures { λ r. ⌜ LineReplied words bytes permanent scratch map written line len r ⌝ }
-{
-    let Parsed::Frame(f) = lines::frame::parse_line(line, len) else {
-        return Answer {
-            status: 18,
-            value: 0,
-        };
-    };
-    let op = f.op;
-    scopes::carry_out(
-        words,
-        bytes,
-        permanent,
-        scratch,
-        map,
-        written,
-        op,
-        f.thread,
-        f.p,
-        f.q,
-        f.r,
-    )
-}
-
-// Answers a line and writes the answer.
-fn end_line(
-    words: &mut Words,
-    bytes: &mut Bytes,
-    permanent: &mut [u64],
-    scratch: &mut [u64],
-    map: &mut [u64],
-    written: &mut [u64],
-    line: &Text,
-    len: usize,
-    output: &mut [u8],
-    at: usize,
-)
-    requires { ⌜ (Ready (now words) (now bytes)) × (length (now line) ≡ 40) × (at + 19 ≤ length (now output)) ⌝ }
-    ensures { λ r. ⌜ LineEnded words bytes permanent scratch map written line len output at ⌝ }
-{
-    let a = answer_line(words, bytes, permanent, scratch, map, written, line, len);
-    lines::answer::write_answer(output, at, a.status, a.value);
 }
 
 // One byte: a line feed ends the line so far; any other byte belongs to it.
@@ -92,7 +34,7 @@ fn feed_byte(
     ensures { λ r. ⌜ BytesFed words bytes permanent scratch map written line len output at (b ∷ []) r ⌝ }
 {
     if b == b'\n' {
-        end_line(
+        line_answers::end_line(
             words,
             bytes,
             permanent,
@@ -176,7 +118,7 @@ pub fn finish(
     if len == 0 {
         return 0;
     }
-    end_line(
+    line_answers::end_line(
         words,
         bytes,
         permanent,

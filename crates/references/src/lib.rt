@@ -117,7 +117,7 @@ pub fn store(
     match check_store(words, bytes, permanent, scratch, map, t, p, q, target) {
         Indexed::Refused(status) => Answer { status, value: 0 },
         Indexed::At(w) => {
-            objects::put_word(permanent, scratch, w.area, w.at, target);
+            stores::put_word(permanent, scratch, w.area, w.at, target);
             Answer {
                 status: 0,
                 value: 0,
@@ -153,7 +153,7 @@ pub fn load<'a>(
     match objects::check_index(words, bytes, permanent, scratch, map, t, p, Part::Slots, q) {
         Indexed::Refused(status) => Answer { status, value: 0 },
         Indexed::At(w) => {
-            let x = objects::word_at(permanent, scratch, w.area, w.at);
+            let x = stores::word_at(permanent, scratch, w.area, w.at);
             let status = check_reference(words, bytes, permanent, scratch, map, t, x);
             if status != 0 {
                 return Answer { status, value: 0 };

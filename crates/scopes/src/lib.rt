@@ -6,10 +6,6 @@ use tables::Words;
 ghost use Rattle.model.specs.Ops.{callOf};
 ghost use Rattle.tables.specs.Contract.{Usable, Answers};
 
-mod state; // state.rt: the ops that touch no lent word
-mod memory; // memory.rt: the ops that write lent words
-mod question; // question.rt: the ops that change nothing
-
 // The answer, the tables and the buffers are those of the call's definition.
 pub fn carry_out(
     words: &mut Words,
@@ -28,7 +24,7 @@ pub fn carry_out(
     ensures { λ a. ⌜ Answers a words bytes permanent scratch map written (callOf op t p q r) ⌝ }
 {
     match op {
-        Op::State(o) => state::carry_state(
+        Op::State(o) => state_ops::carry_state(
             words,
             bytes,
             permanent,
@@ -41,7 +37,7 @@ pub fn carry_out(
             q,
             r,
         ),
-        Op::Memory(o) => memory::carry_memory(
+        Op::Memory(o) => memory_ops::carry_memory(
             words,
             bytes,
             permanent,
@@ -54,7 +50,7 @@ pub fn carry_out(
             q,
             r,
         ),
-        Op::Question(o) => question::carry_question(
+        Op::Question(o) => question_ops::carry_question(
             words,
             bytes,
             permanent,

@@ -21,9 +21,10 @@ use Rattle.lines.specs.declared.frame.Parsed.{Parsed}
 use Rattle.lines.specs.declared.frame.Parsed.the-variants.{Frame, Bad}
 use Rattle.lines.specs.Frames.{parsedOf}
 use Rattle.lines.specs.LineLaws.{buffered-none}
-use Rattle.reader.specs.Output.{frameCall, answerTo, following, lineAnswer, afterLine, linesOf, answersOf, firstWorld, outputOf}
+use Rattle.line_answers.specs.Output.{frameCall, answerTo, following, lineAnswer, afterLine, linesOf, answersOf, firstWorld, outputOf}
 use Rattle.reader.specs.Feeding.{fed, finished, fedAll, joined, fed-none, fed-end, fed-other, fed-chunks, lines-end, lines-other}
-use Rattle.reader.specs.Held.{Core, Represents, held, Finishes}
+use Rattle.line_answers.specs.Answered.{Core, Represents}
+use Rattle.reader.specs.Held.{held, Finishes}
 use Rattle.reader.specs.Program.{FedChunks, fed-after}
 use Rattle.served.specs.Input.{elementsTo, elementsOf, linesFrom, onto, answerBy, leftBy, answersBy}
 

@@ -9,7 +9,7 @@ use Rattle.lines.specs.declared.frame.Parsed.{Parsed}
 use Rattle.lines.specs.declared.frame.Parsed.the-variants.{Frame, Bad}
 use Rattle.lines.specs.Frames.{parsedOf}
 use Rattle.lines.specs.Answers.{answerOf}
-use Rattle.reader.specs.Output.{frameCall}
+use Rattle.line_answers.specs.Output.{frameCall}
 
 -- a line that is a frame is a call, lent what is kept; any other line is none
 abbrev pub elementsTo : Parsed → List Element → List Element

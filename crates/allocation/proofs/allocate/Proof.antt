@@ -107,4 +107,8 @@ allocate-spec =
     has-right-requires
     area-at-requires
     check-area-requires (λ c. search needs) (λ c. search needs) (λ c. search needs) (λ c. search needs) returns-2
-    apply-allocate-requires (λ c. search needs) (λ c. search needs) (λ c. search needs) (λ c. search needs) returns-3)
+    apply-allocate-requires
+    (λ c. c .before .before .before .before .before .before .before .before .apply-allocate .kept .1 .1 .0)
+    (λ c. c .before .before .before .before .before .before .before .before .apply-allocate .kept .1 .1 .1 .0)
+    (λ c. c .before .before .before .before .before .before .before .before .apply-allocate .kept .1 .1 .1 .1 .0)
+    (λ c. c .before .before .before .before .before .before .before .before .apply-allocate .kept .1 .1 .1 .1 .1 .0) returns-3)

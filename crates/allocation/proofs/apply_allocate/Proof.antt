@@ -84,8 +84,8 @@ apply-allocate-spec =
     (λ c. search needs)
     clear-bits-requires
     (λ c κs. search needs)
-    (λ c. search needs)
-    (λ c. search needs)
-    (λ c. search needs)
-    (λ c. search needs)
+    (λ c. c .before .before .before .before .before .before .before .before .before .before .before .before .before .put-object .kept .0)
+    (λ c. c .before .before .before .before .before .before .before .before .before .before .before .before .before .put-object .kept .1 .0)
+    (λ c. c .before .before .before .before .before .before .before .mark-object .kept .0)
+    (λ c. c .before .before .before .clear-bits .kept .0)
     returns)

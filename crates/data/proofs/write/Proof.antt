@@ -87,4 +87,7 @@ write-spec =
     check-index-requires (λ c. search needs) (λ c. search needs)
     put-word-requires set-bit-requires
     (λ c. search needs) (λ c. search needs) (λ c. search needs) returns-2
-    (λ c. search needs) (λ c. search needs) (λ c. search needs) returns-3)
+    (λ c. c .before .before .before .before .before .before .before .before .before .put-word .kept .0)
+    (λ c. c .before .before .before .before .before .before .before .before .before .put-word .kept .1 .0)
+    (λ c. c .before .before .set-bit .kept .0)
+    returns-3)

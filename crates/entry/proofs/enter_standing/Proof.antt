@@ -12,7 +12,7 @@ use Rattle.tables.specs.declared.Entry.{Entry}
 use Rattle.tables.specs.Contract.{stateIn}
 use Rattle.tables.specs.AnsweredLaws.{changed-refused, changed-accepted}
 use Rattle.entry.specs.Enter.{standing-checked, enterable}
-use Rattle.entry.specs.Entered.{value-standing, standing-holds}
+use Rattle.opening.specs.Entered.{value-standing, standing-holds}
 use Rattle.entry.proofs.enter_standing.Statement.{statement}
 use Rattle.entry.proofs.enter_standing.Tie as tie
 

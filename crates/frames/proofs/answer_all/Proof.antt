@@ -5,7 +5,7 @@ use native.Mathlib.Omega.{arith}
 use lib.ListN.{length, take}
 use borrow.Author.Needs.{needs}
 use Rattle.tables.specs.Contract.{Ready}
-use Rattle.reader.specs.Held.{core}
+use Rattle.line_answers.specs.Answered.{core}
 use Rattle.frames.specs.Progress.{Continues, Progress}
 use Rattle.frames.specs.ProgressLaws.{continues-first, write-enough, rest-enough, round-less, progress-none, progress-more, ran-failed, ran-whole}
 use Rattle.frames.proofs.answer_all.Statement.{statement}

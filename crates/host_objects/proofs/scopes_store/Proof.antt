@@ -7,4 +7,4 @@ returns : tie.Need-returns
 returns c = c .before .before .before .before .store .ensures
 
 pub scopes-store-spec : {M : Type 1} → statement M
-scopes-store-spec = tie.close (tie.spec (λ c κs. search needs) (λ c. search needs) (λ c. search needs) returns)
+scopes-store-spec = tie.close (tie.spec (λ c κs. search needs) (λ c. c .before .before .before .before .store .kept .1 .1 .0) (λ c. c .before .before .before .before .store .kept .1 .1 .1 .0) returns)

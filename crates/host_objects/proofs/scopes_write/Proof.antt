@@ -7,4 +7,4 @@ returns : tie.Need-returns
 returns c = c .before .before .before .before .before .before .write .ensures
 
 pub scopes-write-spec : {M : Type 1} → statement M
-scopes-write-spec = tie.close (tie.spec (λ c κs. search needs) (λ c. search needs) (λ c. search needs) (λ c. search needs) returns)
+scopes-write-spec = tie.close (tie.spec (λ c κs. search needs) (λ c. c .before .before .before .before .before .before .write .kept .1 .1 .0) (λ c. c .before .before .before .before .before .before .write .kept .1 .1 .1 .0) (λ c. c .before .before .before .before .before .before .write .kept .1 .1 .1 .1 .1 .0) returns)

@@ -22,5 +22,9 @@ pub answer-chunk-spec : {M : Type 1} → statement M
 answer-chunk-spec =
     tie.close
     (tie.spec
-    (λ c. search needs) (λ c κs. search needs) write-answers-requires (λ c. search needs) (λ c. search needs) (λ c. search needs) (λ c. search needs)
+    (λ c. search needs) (λ c κs. search needs) write-answers-requires
+    (λ c. c .before .before .before .before .before .before .before .before .before .before .before .feed .kept .1 .1 .0)
+    (λ c. c .before .before .before .before .before .before .before .before .before .before .before .feed .kept .1 .1 .1 .0)
+    (λ c. c .before .before .before .before .before .before .before .before .before .before .before .feed .kept .1 .1 .1 .1 .0)
+    (λ c. c .before .before .before .before .before .before .before .before .before .before .before .feed .kept .1 .1 .1 .1 .1 .0)
     returns)

@@ -22,4 +22,9 @@ pub answer-rest-spec : {M : Type 1} → statement M
 answer-rest-spec =
     tie.close
     (tie.spec
-    (λ c κs. search needs) write-answers-requires (λ c. search needs) (λ c. search needs) (λ c. search needs) (λ c. search needs) returns)
+    (λ c κs. search needs) write-answers-requires
+    (λ c. c .before .before .before .before .before .before .before .before .before .before .before .finish .kept .1 .1 .0)
+    (λ c. c .before .before .before .before .before .before .before .before .before .before .before .finish .kept .1 .1 .1 .0)
+    (λ c. c .before .before .before .before .before .before .before .before .before .before .before .finish .kept .1 .1 .1 .1 .0)
+    (λ c. c .before .before .before .before .before .before .before .before .before .before .before .finish .kept .1 .1 .1 .1 .1 .0)
+    returns)

@@ -18,5 +18,5 @@ pub read-chunk-spec : {M : Type 1} → statement M
 read-chunk-spec =
     tie.close
     (tie.spec
-    (λ c κs. search needs) (λ c. search needs) (λ c κs. search needs) (λ c. search needs) returns
-    (λ c κs. search needs) (λ c. search needs) (λ c. search needs) (λ c. search needs) returns-2)
+    (λ c κs. search needs) (λ c. search needs) (λ c κs. search needs) (λ c. c .before .before .before .before .before .read .kept .1 .0) returns
+    (λ c κs. search needs) (λ c. search needs) (λ c. search needs) (λ c. c .before .before .before .before .before .before .read .kept .1 .0) returns-2)

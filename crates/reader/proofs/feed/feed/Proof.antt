@@ -6,7 +6,8 @@ use lib.ListN.{length, take}
 use lib.Seq.{take-all, length-take-le}
 use borrow.Author.Needs.{needs}
 use denote.Ref.{now}
-use Rattle.reader.specs.Held.{core, held, Feeds, feeds-none}
+use Rattle.line_answers.specs.Answered.{core}
+use Rattle.reader.specs.Held.{held, Feeds, feeds-none}
 use Rattle.reader.specs.HeldLaws.{feeds-more}
 use Rattle.reader.proofs.feed.feed.Statement.{statement}
 use Rattle.reader.proofs.feed.feed.Tie as tie

@@ -1,0 +1,2 @@
+-- The laws of an accepted entry.
+pub mod Entered

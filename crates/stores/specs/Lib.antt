@@ -1,0 +1,2 @@
+-- The definitions that the contracts cite, and the laws that callers use of them.
+pub mod Stores
