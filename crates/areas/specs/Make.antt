@@ -22,7 +22,8 @@ use Rattle.model.proofs.Accepted.{Called, MakeOk, make-ok}
 use Rattle.tables.specs.Decode.{stateOf, areaRecord, putArea, lengthsRecord, usedBitsOf, putUsedBits, Shaped, Holds}
 use Rattle.tables.specs.Contract.{Ready}
 use Rattle.tables.specs.Laws.{area-read, lengths-read, used-bits-read, state-area}
-use Rattle.held_blocks.specs.Part.{used-hold}
+use Rattle.flips.specs.Flipped.{AllBits}
+use Rattle.held_blocks.specs.Part.{bits-kept, used-hold}
 use Rattle.callers.specs.Caller.{thread-refused, called-rest}
 use Rattle.areas.specs.declared.make.Checked.{Checked}
 use Rattle.areas.specs.declared.make.Checked.the-variants.{Passed, Refused}
@@ -140,6 +141,10 @@ module _ (w b : List ℕ) (g : Ready w b) (t q r : ℕ) (ok : MakeOk (stateOf w 
   -- the room is within the blocks, and the size within the store
   pub room-bounds : (roomFor (stateOf w b) r + blocksFor r ≤ 1024) × (r ≤ 16384)
   room-bounds = (omega (arith, ok .ends, g .good .placed .scratch), omega (arith, ok .ends, g .good .placed .scratch))
+
+  -- it is free, also in the words v, in which the area is written
+  pub room-free : {f : ℕ} {v : List ℕ} (x : Area) → v ≡ putArea w q x → f ≡ roomFor (stateOf w b) r → AllBits (usedBitsOf v) f (blocksFor r) 0
+  room-free x d e j h = rw (d, bits-kept w b q x (ok .area) (g .sized), e) (ok .clear j h)
 
   pub made-holds : {f : ℕ} → f ≡ roomFor (stateOf w b) r
       → let v = putArea w q (madeArea (areaRecord w q) f r) in

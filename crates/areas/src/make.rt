@@ -57,14 +57,14 @@ fn check_make(words: &Words, bytes: &Bytes, t: u64, q: u64, r: u64) -> Checked
     find_room(words, bytes, r)
 }
 
-// Scope q gets the r words from its first block on, and its blocks are used.
+// Scope q gets the r words from its first block on, and its blocks, which were free, are used.
 fn apply_make(words: &mut Words, bytes: &Bytes, t: u64, q: usize, r: u64, first: usize)
     requires { ⌜ Usable words bytes × MakeOk (stateIn words bytes) t q r × (first ≡ roomFor (stateIn words bytes) r) ⌝ }
     ensures { λ u. ⌜ Leaves words bytes (makeState (before words bytes) q r) ⌝ }
 {
     let x = held_areas::area_at(words, q);
     held_areas::put_area(words, q, held_areas::placed(x, 16 * first as u64, r));
-    held_blocks::mark_used(words, first, ((r + 15) / 16) as usize);
+    held_blocks::flip_blocks(words, first, ((r + 15) / 16) as usize);
 }
 
 // After refusal 1.

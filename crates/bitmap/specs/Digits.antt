@@ -145,3 +145,9 @@ digits-cleared x k e hx hk he =
     let below : x % 2 ^ k < 2 ^ suc e = omega (arith, mod-lt x (pow-pos k), pow-mono le) in
     rw (and-below x k (omega arith), and-above x e hx he, or-shifted-r (x / 2 ^ suc e) (suc e) (x % 2 ^ k) below)
     (sym (rw all at (above-below x k (suc e - k))))
+
+-- `u64::MAX >> (64 - n)`
+pub ones-shr : (n : ℕ) → n ≤ 64 → (2 ^ 64 - 1) / 2 ^ (64 - n) ≡ 2 ^ n - 1
+ones-shr n h =
+    let all : n + (64 - n) ≡ 64 = omega arith in
+    rw all at (ap (λ (y : ℕ). y / 2 ^ (64 - n)) (ones-split n (64 - n)) ∙ high (2 ^ n - 1) (64 - n) (ones-lt (64 - n)))

@@ -4,10 +4,10 @@ use tables::WORDS;
 use tables::Words;
 ghost use mathlib.Core.Path.{_≡_};
 ghost use Prim.Native.Nat.{_+_, _<_, _≤_};
-ghost use Rattle.bitmap.specs.Bitmap.{cleared, marked};
 ghost use Rattle.runs.specs.LowestRun.{lowestRun, isClear};
 ghost use lib.ListN.{length};
-ghost use Rattle.tables.specs.Decode.{wordCount, usedBitsOf, putUsedBits};
+ghost use Rattle.tables.specs.Decode.{wordCount, usedBitsOf};
+ghost use Rattle.held_blocks.specs.Part.{FlippedPart};
 
 // The first block of the lowest run of n free ones among so many blocks; their number where there is none.
 pub fn lowest_free(words: &Words, n: usize, blocks: usize) -> usize
@@ -15,37 +15,21 @@ pub fn lowest_free(words: &Words, n: usize, blocks: usize) -> usize
     ensures { λ r. ⌜ r ≡ lowestRun (isClear (usedBitsOf (now (words .entry)))) n blocks ⌝ }
 {
     let all = &words[..];
-    runs::lowest_run(&all[USED_BITS_AT..WORDS], n, blocks).start
+    search::lowest_run(&all[USED_BITS_AT..WORDS], n, blocks).start
 }
 
-// The n bits from bit k on of the used bits are set, where `all` are the words of the table.
-fn set_part(all: &mut [u64], k: usize, n: usize)
+// The n bits from bit k on of the used bits are flipped, where `all` are the words of the table.
+fn flip_part(all: &mut [u64], k: usize, n: usize)
     requires { ⌜ (0 < n) × (k + n ≤ 1024) × (length (now all) ≡ wordCount) ⌝ }
-    ensures { λ r. ⌜ now (all .exit) ≡ putUsedBits (now (all .entry)) (marked (usedBitsOf (now (all .entry))) k n) ⌝ }
+    ensures { λ r. ⌜ FlippedPart (now (all .entry)) (now (all .exit)) k n ⌝ }
 {
-    runs::set_bits(&mut all[USED_BITS_AT..WORDS], k, n);
+    flips::flip_bits(&mut all[USED_BITS_AT..WORDS], k, n);
 }
 
-// .. or cleared
-fn clear_part(all: &mut [u64], k: usize, n: usize)
-    requires { ⌜ (k + n ≤ 1024) × (length (now all) ≡ wordCount) ⌝ }
-    ensures { λ r. ⌜ now (all .exit) ≡ putUsedBits (now (all .entry)) (cleared (usedBitsOf (now (all .entry))) k n) ⌝ }
-{
-    bitmap::clear_bits(&mut all[USED_BITS_AT..WORDS], k, n);
-}
-
-// The n blocks from block k on are used.
-pub fn mark_used(words: &mut Words, k: usize, n: usize)
+// The n blocks from block k on: where all are free they are used, where all are used they are free.
+pub fn flip_blocks(words: &mut Words, k: usize, n: usize)
     requires { ⌜ (0 < n) × (k + n ≤ 1024) ⌝ }
-    ensures { λ r. ⌜ now (words .exit) ≡ putUsedBits (now (words .entry)) (marked (usedBitsOf (now (words .entry))) k n) ⌝ }
+    ensures { λ r. ⌜ FlippedPart (now (words .entry)) (now (words .exit)) k n ⌝ }
 {
-    set_part(&mut words[..], k, n);
-}
-
-// The n blocks from block k on are free.
-pub fn mark_free(words: &mut Words, k: usize, n: usize)
-    requires { ⌜ k + n ≤ 1024 ⌝ }
-    ensures { λ r. ⌜ now (words .exit) ≡ putUsedBits (now (words .entry)) (cleared (usedBitsOf (now (words .entry))) k n) ⌝ }
-{
-    clear_part(&mut words[..], k, n);
+    flip_part(&mut words[..], k, n);
 }

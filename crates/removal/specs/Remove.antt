@@ -18,7 +18,8 @@ use Rattle.model.proofs.Accepted.{Called, RemoveOk}
 use Rattle.tables.specs.Decode.{stateOf, areaRecord, putArea, usedBitsOf, putUsedBits, Holds}
 use Rattle.tables.specs.Contract.{Ready}
 use Rattle.tables.specs.Laws.{area-read, state-area}
-use Rattle.held_blocks.specs.Part.{free-hold}
+use Rattle.flips.specs.Flipped.{AllBits}
+use Rattle.held_blocks.specs.Part.{bits-kept, free-hold}
 use Rattle.callers.specs.Caller.{thread-refused, called-rest}
 
 -- ---- the chain
@@ -58,12 +59,19 @@ module _ (w b : List ℕ) (g : Ready w b) (t q : ℕ) (ok : RemoveOk (stateOf w 
   record-is : x ≡ areaAt (stateOf w b) q
   record-is = e ∙ sym (area-read w b q (ok .area))
 
-  -- its blocks are some of the 1,024, and its size is within the store
-  pub block-bounds : (firstBlock x + blocksFor (x .size) ≤ 1024) × (x .size ≤ 16384)
+  -- it has a block, its blocks are some of the 1,024, and its size is within the store
+  pub block-bounds : (0 < blocksFor (x .size)) × (firstBlock x + blocksFor (x .size) ≤ 1024) × (x .size ≤ 16384)
   block-bounds = rw record-is (
+    omega (arith, ok .made),
     omega (arith, g .good .placed .below q (ok .scope) (ok .area), g .good .placed .scratch),
     omega (arith, g .good .placed .below q (ok .scope) (ok .area), g .good .placed .scratch),
   )
+
+  -- its blocks are used, also in the words v, in which the area is written
+  pub blocks-used : {v : List ℕ} (y : Area) → v ≡ putArea w q y → AllBits (usedBitsOf v) (firstBlock x) (blocksFor (x .size)) 1
+  blocks-used y d j h =
+      rw (d, bits-kept w b q y (ok .area) (g .sized), record-is)
+      (g .good .placed .held q (ok .scope) (ok .area) (firstBlock (areaAt (stateOf w b) q) + j) (omega arith, omega (arith, rw record-is at h)))
 
   pub removed-holds : let v = putArea w q (removedArea x) in
       Holds (putUsedBits v (cleared (usedBitsOf v) (firstBlock x) (blocksFor (x .size)))) b (removeState (stateOf w b) q)

@@ -41,7 +41,7 @@ fn apply_remove(words: &mut Words, bytes: &Bytes, t: u64, q: usize)
 {
     let x = held_areas::area_at(words, q);
     held_areas::put_area(words, q, held_areas::placed(x, 0, 0));
-    held_blocks::mark_free(
+    held_blocks::flip_blocks(
         words,
         (x.start / 16) as usize,
         ((x.size + 15) / 16) as usize,

@@ -1,5 +1,2 @@
--- Runs of bits: definitions that the contracts cite, and the laws that callers use of them.
+-- The lowest run of numbers that pass a test, and the laws that callers use of it.
 pub mod LowestRun
-pub mod Filled
-pub mod ClearDown
-pub mod Search

@@ -5,10 +5,10 @@ use mathlib.Core.Path.{_≡_, refl, sym, _∙_}
 use Prim.Native.Nat.{ℕ, suc, _+_, _-_, _*_, _/_, _%_, _^_, _≤_, _<_}
 use native.Mathlib.Omega.{arith}
 use Rattle.bitmap.specs.Bitmap.{bitAt}
-use Rattle.runs.specs.ClearDown.{digits-bound, all-down, one-down}
-use Rattle.runs.specs.Search.{Sought, Looking, sought-first, looking-first, looking-more, sought-next, found, none}
-use Rattle.runs.proofs.lowest_run.Statement.{statement}
-use Rattle.runs.proofs.lowest_run.Tie as tie
+use Rattle.search.specs.ClearDown.{digits-bound, all-down, one-down}
+use Rattle.search.specs.Search.{Sought, Looking, sought-first, looking-first, looking-more, sought-next, found, none}
+use Rattle.search.proofs.lowest_run.Statement.{statement}
+use Rattle.search.proofs.lowest_run.Tie as tie
 
 -- the looks so far, and the bits that are left
 looked : {m : List ℕ} {n bits start looks left : ℕ} → Looking m n bits start looks left → looks + left ≤ 2 * bits

@@ -1,8 +1,8 @@
 -- `digits_down` meets its contract: the mask has 1 at the digits up to digit w mod 64.
 use borrow.Author.Needs.{needs}
-use Rattle.runs.specs.ClearDown.{rest-is}
-use Rattle.runs.proofs.digits_down.Statement.{statement}
-use Rattle.runs.proofs.digits_down.Tie as tie
+use Rattle.search.specs.ClearDown.{rest-is}
+use Rattle.search.proofs.digits_down.Statement.{statement}
+use Rattle.search.proofs.digits_down.Tie as tie
 
 returns : tie.Need-returns
 returns c = rest-is (c .before .args .map .now) (c .before .args .w)

@@ -14,8 +14,7 @@ use borrow.Author.Tests.{leb-true, leb-false}
 use lib.Pow.{pow-pos, pow-mono, high, mod-pow-add, mod-mod-pow}
 use Rattle.layout.specs.Choice.{cases}
 use Rattle.bitmap.specs.Bitmap.{digit, bitAt}
-use Rattle.bitmap.specs.Digits.{twice}
-use Rattle.runs.specs.Filled.{ones-shr}
+use Rattle.bitmap.specs.Digits.{twice, ones-shr}
 
 -- r bits from bit w down are clear, no further than its map word; where the word has another one below them, it is set
 pub record ClearDown (m : List ℕ) (w r : ℕ) : Type 0 where

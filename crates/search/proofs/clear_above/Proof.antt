@@ -3,9 +3,9 @@ use native.Mathlib.Nat.{lt-of-le-of-lt}
 use native.Mathlib.Omega.{arith}
 use lib.Count.{leading-le}
 use borrow.Author.Needs.{needs}
-use Rattle.runs.specs.ClearDown.{zeros-above}
-use Rattle.runs.proofs.clear_above.Statement.{statement}
-use Rattle.runs.proofs.clear_above.Tie as tie
+use Rattle.search.specs.ClearDown.{zeros-above}
+use Rattle.search.proofs.clear_above.Statement.{statement}
+use Rattle.search.proofs.clear_above.Tie as tie
 
 cast-result : tie.Need-cast-result
 cast-result c = record { fits = lt-of-le-of-lt (leading-le 64 _) (omega arith) }
