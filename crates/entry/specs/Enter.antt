@@ -4,15 +4,13 @@ use mathlib.Core.Path.{_≡_, refl, ap, sym, _∙_}
 use mathlib.Core.Bool.{Bool, true, false, not, _&&_}
 use mathlib.Core.Logic.{_≢_}
 use mathlib.Core.List.{List}
-use Prim.Native.Nat.{ℕ, suc, _≤_, _<_}
-use native.Mathlib.Omega.{arith}
+use Prim.Native.Nat.{ℕ, _≤_, _<_}
 use lib.Dec.{eqb, leb, ltb}
-use lib.ListN.{set}
 use borrow.Author.Tests.{le-leb, lt-leb, lt-ltb, le-ltb, eq-eqb, ne-eqb}
 use Rattle.layout.specs.Choice.{refuse, refuse-first, hit, skip, peel}
 use Rattle.rights.specs.declared.Right.the-variants.{Enter}
 use Rattle.model.specs.declared.Area.{Area}
-use Rattle.model.specs.State.{State, areaAt, threadAt, stackAt, innermost, madeAs, isMade, isScope, withThread}
+use Rattle.model.specs.State.{State, areaAt, threadAt, stackAt, innermost, madeAs, isMade}
 use Rattle.model.specs.Checks.{called, hasRight}
 use Rattle.model.specs.Scopes.{lastGeneration, otherParent, generationsOut, enterRest}
 use Rattle.model.specs.Invariant.{Good}
