@@ -11,7 +11,7 @@ use layout::answer::Answer;
 use tables::{Bytes, Words};
 
 // The first block of a new scope's room, or the refusal of the call.
-#[derive(Drop)]
+#[derive(Clone, Copy)]
 pub enum Checked {
     Passed(usize),
     Refused(u64),

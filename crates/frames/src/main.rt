@@ -23,7 +23,7 @@ use tables::{Bytes, Words};
 
 // How a run ended: how many bytes the last read gave, how many steps were left before and after
 // the rest was answered (none before it if something failed), and how many bytes its answer has.
-#[derive(Drop)]
+#[derive(Clone, Copy)]
 struct Ended {
     n: usize,
     kept: usize,

@@ -12,7 +12,7 @@ use rights::Table;
 const CLASSES: usize = 9;
 
 // The digits, and how many of them are printed: all, or none, and then they are zeros.
-#[derive(Drop)]
+#[derive(Clone, Copy)]
 pub struct Generated {
     pub digits: Table,
     pub len: usize,

@@ -2,7 +2,7 @@
 
 // What a call answers: status 0 and a value, or a refusal and 0.
 #[repr(C)]
-#[derive(Drop)]
+#[derive(Clone, Copy)]
 pub struct Answer {
     pub status: u64,
     pub value: u64,

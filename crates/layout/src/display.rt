@@ -8,7 +8,7 @@ pub type Row = [u8; 32];
 
 // How many scopes a display has: 0 for heap, immortal and every scope that is not open. Source 004
 // counts from -1.
-#[derive(Drop)]
+#[derive(Clone, Copy)]
 pub struct Depth(pub usize);
 
 // The one entry more, or what the parent's row has there.

@@ -6,12 +6,12 @@ use crate::answer::Answer;
 
 // An entry's place on a stack, from 0 at the bottom. A heap or immortal entry takes a place and no
 // depth.
-#[derive(Drop)]
+#[derive(Clone, Copy)]
 pub struct Place(pub usize);
 
 // At most 32 entries, each the number of an area; the top one is the last.
 #[repr(C)]
-#[derive(Drop)]
+#[derive(Clone, Copy)]
 pub struct ScopeStack {
     pub len: u64,
     pub entries: [u8; 32],

@@ -8,7 +8,7 @@ use crate::line::Text;
 use model::{Op, Opcode};
 
 // A frame: op 2 digits, thread 2, p 16, q 4, r 16.
-#[derive(Drop)]
+#[derive(Clone, Copy)]
 pub struct Fields {
     pub op: Op,
     pub thread: u64,
@@ -18,7 +18,7 @@ pub struct Fields {
 }
 
 // What a line is.
-#[derive(Drop)]
+#[derive(Clone, Copy)]
 pub enum Parsed {
     Frame(Fields),
     Bad,

@@ -3,7 +3,7 @@
 
 // An area: where its words start in its store, how many it has, how many are used, its generation,
 // its reference count, its parent (0 for none) and its depth (0 unless it is an open scope).
-#[derive(Drop)]
+#[derive(Clone, Copy)]
 pub struct Area {
     pub start: u64,
     pub size: u64,
@@ -15,7 +15,7 @@ pub struct Area {
 }
 
 // The lengths that set-up keeps, in words. The written map has the start map's.
-#[derive(Drop)]
+#[derive(Clone, Copy)]
 pub struct Lengths {
     pub permanent: u64,
     pub scratch: u64,
@@ -23,7 +23,7 @@ pub struct Lengths {
 }
 
 // The ops that touch no lent word.
-#[derive(Drop)]
+#[derive(Clone, Copy)]
 pub enum StateOp {
     Start,
     End,
@@ -35,7 +35,7 @@ pub enum StateOp {
 }
 
 // The ops that write lent words.
-#[derive(Drop)]
+#[derive(Clone, Copy)]
 pub enum MemoryOp {
     Allocate,
     Store,
@@ -43,14 +43,14 @@ pub enum MemoryOp {
 }
 
 // The ops that change nothing.
-#[derive(Drop)]
+#[derive(Clone, Copy)]
 pub enum QuestionOp {
     Load,
     Read,
 }
 
 // The ops, 01 to 0c, by what they may touch.
-#[derive(Drop)]
+#[derive(Clone, Copy)]
 pub enum Op {
     State(StateOp),
     Memory(MemoryOp),
@@ -58,7 +58,7 @@ pub enum Op {
 }
 
 // What the number of an op stands for: an op, and whether it uses the fields p, q and r.
-#[derive(Drop)]
+#[derive(Clone, Copy)]
 pub enum Opcode {
     Known(Op, bool, bool, bool),
     Unknown,

@@ -8,7 +8,7 @@ use rights::Right;
 use tables::{Bytes, Words};
 
 // The object of a call, or the refusal of the call.
-#[derive(Drop)]
+#[derive(Clone, Copy)]
 pub enum Checked {
     Passed(Resolved),
     Refused(u64),

@@ -8,7 +8,7 @@ use tables::{Bytes, Words};
 
 // An object that a handle resolves to: its area, the place of its header in its store and its bit in the maps, its
 // slots and how many data words it has.
-#[derive(Drop)]
+#[derive(Clone, Copy)]
 pub struct Resolved {
     pub area: u64,
     pub at: usize,
@@ -17,7 +17,7 @@ pub struct Resolved {
     pub data_words: u64,
 }
 
-#[derive(Drop)]
+#[derive(Clone, Copy)]
 pub enum Found {
     At(Resolved),
     Nothing,

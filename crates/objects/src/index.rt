@@ -9,14 +9,14 @@ use crate::find::Resolved;
 use tables::{Bytes, Words};
 
 // The two parts of an object after its header: the slots, then the data words.
-#[derive(Drop)]
+#[derive(Clone, Copy)]
 pub enum Part {
     Slots,
     Data,
 }
 
 // A word of an object: its area, its place in the store that has the area's words, and its bit in the maps.
-#[derive(Drop)]
+#[derive(Clone, Copy)]
 pub struct WordPlace {
     pub area: u64,
     pub at: usize,
@@ -24,7 +24,7 @@ pub struct WordPlace {
 }
 
 // The word of a call, or the refusal of the call.
-#[derive(Drop)]
+#[derive(Clone, Copy)]
 pub enum Indexed {
     At(WordPlace),
     Refused(u64),

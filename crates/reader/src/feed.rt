@@ -8,7 +8,7 @@ use lines::line::Text;
 use tables::{Bytes, Words};
 
 // How many bytes the line so far has (41 for every longer line), and how many were written.
-#[derive(Drop)]
+#[derive(Clone, Copy)]
 pub struct Fed {
     pub len: usize,
     pub written: usize,

@@ -5,7 +5,7 @@ ghost use Rattle.rights.specs.Rights.{class_of, class_index, right_index, table_
 
 // What a thread may do: enter an area, allocate in it, use an object of it, store or load a
 // reference to one.
-#[derive(Drop)]
+#[derive(Clone, Copy)]
 pub enum Right {
     Enter,
     Allocate,

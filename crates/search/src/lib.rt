@@ -5,7 +5,7 @@ ghost use Rattle.runs.specs.LowestRun.{lowest_run, is_clear};
 ghost use Rattle.search.specs.ClearDown.{digits_down};
 
 // Where a run starts, and at how many bits the search has looked: a host sees nothing of it, and it costs nothing.
-#[derive(Drop)]
+#[derive(Clone, Copy)]
 pub struct Found {
     pub start: usize,
     pub looks: usize,

@@ -11,7 +11,7 @@ use tables::{BYTES, Bytes, WORDS, Words};
 
 // The status, and the two tables that hold the state.
 #[repr(C)]
-#[derive(Drop)]
+#[derive(Clone, Copy)]
 pub struct SetUp {
     pub status: u64,
     pub words: Words,

@@ -9,14 +9,14 @@
 // ---- records
 
 // The words of a thread: its kind, 0 where it is not started, and how many entries its stack has.
-#[derive(Drop)]
+#[derive(Clone, Copy)]
 pub struct ThreadWords {
     pub kind: u64,
     pub len: u64,
 }
 
 // An entry of a stack: its area, and the innermost scope as of it, 0 for none.
-#[derive(Drop)]
+#[derive(Clone, Copy)]
 pub struct Entry {
     pub area: u8,
     pub inner: u8,

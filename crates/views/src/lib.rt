@@ -16,7 +16,7 @@ use tables::{Bytes, Words};
 // scratch; which of its words is the first that is shown, and how many are. Refused: all 0 but the
 // status.
 #[repr(C)]
-#[derive(Drop)]
+#[derive(Clone, Copy)]
 pub struct ViewPlace {
     pub status: u64,
     pub store: u64,
