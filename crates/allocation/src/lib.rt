@@ -1,4 +1,6 @@
 // Op 06: an object is allocated in the current area of a thread.
+#![tactic(auto)]
+
 ghost use Rattle.std.specs.Prelude.{◌≡◌, ◌≤◌, min};
 ghost use Rattle.model.specs.Calls as calls;
 ghost use Rattle.tables.specs.Contract.{state_in, Usable, Answers};

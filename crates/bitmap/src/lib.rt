@@ -1,6 +1,8 @@
 // Maps of bits, which are the start map, the written map and the used bits: bit w mod 64 of map word w / 64, read and written
 // in place.
 // Each function asks that its bits lie in the map: a caller has compared its length first.
+#![tactic(auto)]
+
 ghost use Rattle.std.specs.Prelude.{◌≡◌, suc, ◌+◌, ◌-◌, ◌*◌, ◌/◌, ◌%◌, ◌<◌, ◌≤◌, length};
 ghost use Rattle.bitmap.specs.Bitmap.{bit_at, with_bit, cleared, words_holding};
 ghost use Rattle.bitmap.specs.Digits.{without_digits};

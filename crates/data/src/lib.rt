@@ -1,4 +1,6 @@
 // Ops 09 and 0a: a data word is written or read.
+#![tactic(auto)]
+
 ghost use Rattle.model.specs.Calls as calls;
 ghost use Rattle.tables.specs.Contract.{Usable, Answers};
 

@@ -1,4 +1,6 @@
 // Op 04: an area is entered.
+#![tactic(auto)]
+
 ghost use Rattle.std.specs.Prelude.{◌≡◌, ◌<◌, ◌≤◌};
 ghost use Rattle.model.specs.Scopes.{enter_change};
 ghost use Rattle.model.specs.Calls as calls;

@@ -1,5 +1,7 @@
 // A run of bits in a map that is flipped, a map word at a time: clear bits are set, set bits are cleared. Each function
 // asks that its bits lie in the map.
+#![tactic(auto)]
+
 ghost use Rattle.std.specs.Prelude.{◌+◌, ◌*◌, ◌<◌, ◌≤◌, length};
 ghost use Rattle.flips.specs.Flipped.{FlippedDigits, Flipped};
 

@@ -11,6 +11,8 @@
 // said in `rounds`; and that no function here changes `steps` or the input, but by the calls of
 // `rounds`. None can call the system by itself, since this crate names none of `io`, `libc` and
 // `os` (docs/DECISIONS.md, 51).
+#![tactic(auto)]
+
 ghost use Rattle.std.specs.Prelude.{◌≡◌, ◌*◌, ◌≤◌, length, replicate};
 ghost use Rattle.tables.specs.Contract.{Ready};
 ghost use Rattle.line_answers.specs.Output.{first_world};

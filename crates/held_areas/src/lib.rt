@@ -1,4 +1,6 @@
 // The areas in the tables, 8 words each, of which the last is spare and never written.
+#![tactic(auto)]
+
 ghost use Rattle.std.specs.Prelude.{◌≡◌, ◌<◌};
 ghost use Rattle.model.specs.State.{made_as, with_words};
 ghost use Rattle.model.specs.Scopes.{reentered};

@@ -1,4 +1,6 @@
 // The used bits in the tables: bit k mod 64 of word k / 64 is 1 where block k of scratch is a scope's.
+#![tactic(auto)]
+
 ghost use Rattle.std.specs.Prelude.{◌≡◌, ◌+◌, ◌<◌, ◌≤◌, length};
 ghost use Rattle.runs.specs.LowestRun.{lowest_run, is_clear};
 ghost use Rattle.tables.specs.Decode.{word_count, used_bits_of};

@@ -1,4 +1,6 @@
 // The displays in the tables: a row of the bytes for each area.
+#![tactic(auto)]
+
 ghost use Rattle.std.specs.Prelude.{◌≡◌, ◌<◌, ◌≤◌};
 ghost use Rattle.layout.specs.Display.{row_holds};
 ghost use Rattle.tables.specs.Decode.{area_count, row_bytes, display_row, put_row};

@@ -1,4 +1,6 @@
 // The three lengths of set-up in the tables.
+#![tactic(auto)]
+
 ghost use Rattle.std.specs.Prelude.{◌≡◌};
 ghost use Rattle.tables.specs.Decode.{lengths_record, put_lengths};
 

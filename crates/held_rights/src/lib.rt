@@ -1,4 +1,6 @@
 // The rights table in force, in the tables: a byte for each digit.
+#![tactic(auto)]
+
 ghost use Rattle.std.specs.Prelude.{◌≡◌, ◌<◌, length};
 ghost use Rattle.rights.specs.Rights.{table_size};
 ghost use Rattle.tables.specs.Decode.{right_of, put_rights};

@@ -1,5 +1,7 @@
 // The rows of the tables, by number: 32 bytes each, which are the entries of the stacks, the innermost scopes
 // beside them and the displays.
+#![tactic(auto)]
+
 ghost use Rattle.std.specs.Prelude.{◌≡◌, ◌<◌};
 ghost use Rattle.tables.specs.Decode.{row_count, byte_row, put_byte_row};
 

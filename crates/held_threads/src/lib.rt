@@ -1,4 +1,6 @@
 // The threads in the tables: the words of each, and its entries, each with the innermost scope as of it.
+#![tactic(auto)]
+
 ghost use Rattle.std.specs.Prelude.{◌≡◌, ◌<◌};
 ghost use Rattle.tables.specs.Decode.{thread_count, row_bytes, thread_record, put_thread, entry_record, put_entry, copy_stack};
 

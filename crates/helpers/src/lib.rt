@@ -1,4 +1,6 @@
 // Op 0b: a thread starts a helper, which begins with its starter's stack.
+#![tactic(auto)]
+
 ghost use Rattle.std.specs.Prelude.{◌≡◌, ◌<◌, ◌≤◌};
 ghost use Rattle.model.specs.State.{area_at, stack_at};
 ghost use Rattle.model.specs.Helpers.{may_enter_all, helper_rest, raised_area, raised, helper_state, helper_change};

@@ -1,4 +1,6 @@
 // Lower-case hexadecimal digits, and the number that one stands for.
+#![tactic(auto)]
+
 ghost use Rattle.std.specs.Prelude.{◌≡◌, true};
 ghost use Rattle.hexadecimal.specs.Digit.{is_digit, digit_value};
 

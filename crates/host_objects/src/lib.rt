@@ -1,6 +1,8 @@
 // The core for C and Rust, second part: ops 06 to 0a: an object is allocated, its slots are stored and
 // loaded, its data words written and read; and its data as a part of its store. What a call is lent and
 // promises is as in `host_state`.
+#![tactic(auto)]
+
 ghost use Rattle.std.specs.Prelude.{◌≡◌};
 ghost use Rattle.model.specs.Calls as calls;
 ghost use Rattle.tables.specs.Contract.{before, supplied, Usable, Answers};

@@ -1,4 +1,6 @@
 // One thread's scope stack as a record that is lent.
+#![tactic(auto)]
+
 ghost use Rattle.std.specs.Prelude.{◌≡◌};
 ghost use Rattle.layout.specs.Stack.{empty_stack, push_answer, pushed_stack, pop_answer, popped_stack};
 

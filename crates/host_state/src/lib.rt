@@ -6,6 +6,8 @@
 // them to each call. Beside that a call asks one thing, `Usable`: that the tables are those that
 // set-up gave and that calls alone have changed since. Every call leaves it for the next. What the
 // buffers hold is free. What a call answers and leaves is the one contract of any call, `Answers`.
+#![tactic(auto)]
+
 ghost use Rattle.model.specs.Calls as calls;
 ghost use Rattle.tables.specs.Contract.{supplied, Usable, Answers};
 ghost use Rattle.setup.specs.First.{Begun};

@@ -1,5 +1,7 @@
 // The version of the core, so that a host can compare the archive that it runs with the header that it was
 // compiled with.
+#![tactic(auto)]
+
 ghost use Rattle.std.specs.Prelude.{◌≡◌};
 ghost use Rattle.host_version.specs.Version.{version};
 

@@ -1,4 +1,6 @@
 // The words and the map bits of a new object.
+#![tactic(auto)]
+
 mod zeros; // zeros.rt: a run of zeros
 
 ghost use Rattle.std.specs.Prelude.{◌≡◌, ◌+◌, ◌*◌, ◌≤◌, length};

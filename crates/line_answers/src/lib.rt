@@ -1,4 +1,6 @@
 // A line is answered: a frame's call is carried out, any other line gives 18, and the answer is written.
+#![tactic(auto)]
+
 ghost use Rattle.std.specs.Prelude.{◌≡◌, ◌+◌, ◌≤◌, length};
 ghost use Rattle.tables.specs.Contract.{Ready};
 ghost use Rattle.line_answers.specs.Clauses.{LineReplied, LineEnded};

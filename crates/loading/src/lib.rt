@@ -1,5 +1,7 @@
 // The load of a rights table: 36 text digits take the place of the table in force. A call without an
 // op: it is lent no buffer, and refusal 1 is not asked.
+#![tactic(auto)]
+
 ghost use Rattle.std.specs.Prelude.{◌≡◌, length};
 ghost use Rattle.rights.specs.Rights.{table_size, only_binary, allocators_use, is_table};
 ghost use Rattle.model.specs.Configuration.{any_started, load_rights_status};

@@ -1,4 +1,6 @@
 // The ops that write lent words. Of the tables, the bytes stay.
+#![tactic(auto)]
+
 ghost use Rattle.model.specs.Ops.{call_of};
 ghost use Rattle.tables.specs.Contract.{Usable, Answers};
 

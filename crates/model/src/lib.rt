@@ -1,5 +1,6 @@
 // What is right: the machine of document 01 in definitions, and the theorem over every list of
 // calls. There is no code here but the types that the definitions share with the code.
+#![tactic(auto)]
 
 // An area: where its words start in its store, how many it has, how many are used, its generation,
 // its reference count, its parent (0 for none) and its depth (0 unless it is an open scope).

@@ -1,4 +1,6 @@
 // The table of ops in code: an op by its number, and the fields that it uses.
+#![tactic(auto)]
+
 ghost use Rattle.std.specs.Prelude.{◌≡◌};
 ghost use Rattle.model.specs.Ops.{op_of};
 

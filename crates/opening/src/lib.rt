@@ -1,4 +1,6 @@
 // What an accepted entry does: the stack gets an entry, and a scope opens or counts one entry more.
+#![tactic(auto)]
+
 ghost use Rattle.std.specs.Prelude.{◌≡◌, ◌<◌, ◌≤◌};
 ghost use Rattle.layout.specs.Display.{extended_row};
 ghost use Rattle.model.specs.State.{area_at, thread_at, stack_at, innermost};

@@ -1,4 +1,6 @@
 // The ops that change nothing: all is lent to read.
+#![tactic(auto)]
+
 ghost use Rattle.model.specs.Ops.{call_of};
 ghost use Rattle.tables.specs.Contract.{Usable, Answers};
 

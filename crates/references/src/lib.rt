@@ -1,4 +1,6 @@
 // Ops 07 and 08: a reference is stored in a slot, or loaded from one.
+#![tactic(auto)]
+
 ghost use Rattle.std.specs.Prelude.{◌≡◌, ◌<◌};
 ghost use Rattle.model.specs.References.{may_refer, reference_rest, store_rest};
 ghost use Rattle.model.specs.Calls as calls;

@@ -1,4 +1,6 @@
 // Op 0c: a scope is removed.
+#![tactic(auto)]
+
 ghost use Rattle.std.specs.Prelude.{◌≡◌};
 ghost use Rattle.model.specs.Removal.{remove_rest, remove_state, remove_change};
 ghost use Rattle.model.specs.Calls as calls;

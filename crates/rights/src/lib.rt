@@ -1,5 +1,7 @@
 // The rights table: 36 text digits, read by kind, class of area and right. Here are the constant table
 // and the place of a right in any table.
+#![tactic(auto)]
+
 ghost use Rattle.std.specs.Prelude.{◌≡◌, ◌<◌, ◌≤◌};
 ghost use Rattle.rights.specs.Rights.{class_of, class_index, right_index, table_size, place_of, built_in};
 

@@ -8,6 +8,8 @@
 // What is not proved, and has to be read: the bodies of the two functions that call the system,
 // `read_more` and `write_digits`, since no contract says which bytes `read` gave and `write` took;
 // and in `run`, that the input to answer is all that was read.
+#![tactic(auto)]
+
 ghost use Rattle.std.specs.Prelude.{◌≡◌, ◌≤◌, length, take};
 ghost use Rattle.io.specs.Counts.{IsPrefixLen};
 ghost use Rattle.generator.specs.Generator.{generated};

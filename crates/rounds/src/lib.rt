@@ -11,6 +11,8 @@
 // which bytes `read` gave and `write` took; and that no other function calls `io`, `libc` or `os`, or
 // changes `steps` (docs/DECISIONS.md, 51), but `refuses_arguments`, which is called before anything is
 // read. None but `read_chunk` can change the input, by its type.
+#![tactic(auto)]
+
 ghost use Rattle.std.specs.Prelude.{◌≡◌, ◌*◌, ◌≤◌, ◌<◌, length, take};
 ghost use Rattle.io.specs.Counts.{IsPrefixLen};
 ghost use Rattle.tables.specs.Contract.{Ready};

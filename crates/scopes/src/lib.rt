@@ -1,4 +1,6 @@
 // The core: a call of any op, carried out in place on the tables and the buffers that are lent.
+#![tactic(auto)]
+
 ghost use Rattle.model.specs.Ops.{call_of};
 ghost use Rattle.tables.specs.Contract.{Usable, Answers};
 

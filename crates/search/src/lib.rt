@@ -1,4 +1,6 @@
 // The lowest run of clear bits in a map. Each function asks that its bits lie in the map.
+#![tactic(auto)]
+
 ghost use Rattle.std.specs.Prelude.{◌≡◌, suc, ◌+◌, ◌-◌, ◌*◌, ◌/◌, ◌%◌, ◌^◌, ◌<◌, ◌≤◌, length};
 ghost use Rattle.std.specs.Int.Count.{count_leading_zeros};
 ghost use Rattle.runs.specs.LowestRun.{lowest_run, is_clear};

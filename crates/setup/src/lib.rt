@@ -1,5 +1,7 @@
 // Set-up: the first state, written into the host's own tables or returned by value. The buffers are
 // lent to read, so that no word of them can be written.
+#![tactic(auto)]
+
 ghost use Rattle.std.specs.Prelude.{◌≡◌};
 ghost use Rattle.model.specs.SetUp.{set_up_status, set_up_state, standing};
 ghost use Rattle.tables.specs.Decode.{Holds};

@@ -1,4 +1,6 @@
 // The ops that touch no lent word: the buffers are lent to read, for their lengths.
+#![tactic(auto)]
+
 ghost use Rattle.model.specs.Ops.{call_of};
 ghost use Rattle.tables.specs.Contract.{Usable, Answers};
 

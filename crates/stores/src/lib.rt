@@ -1,5 +1,7 @@
 // The words of an area: the store that has them, one of them read or written, and its place in the start
 // map.
+#![tactic(auto)]
+
 ghost use Rattle.std.specs.Prelude.{◌≡◌, ◌+◌, ◌<◌, length, get_or, set};
 ghost use Rattle.layout.specs.Choice.{pick};
 ghost use Rattle.model.specs.State.{is_scope};

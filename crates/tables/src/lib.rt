@@ -5,6 +5,7 @@
 // length of the stack), the three lengths of set-up and 16 words of used bits, one for each block of scratch. The bytes
 // are rows of 32: row t has the entries of thread t, row 16 + t beside each entry the innermost scope
 // as of it, row 32 + a the display of area a; behind the rows come the 36 digits of the rights table.
+#![tactic(auto)]
 
 // ---- records
 

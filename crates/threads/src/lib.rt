@@ -1,4 +1,6 @@
 // Ops 01 and 02: threads start and end.
+#![tactic(auto)]
+
 ghost use Rattle.std.specs.Prelude.{◌≡◌, ◌<◌};
 ghost use Rattle.model.specs.State.{thread_at, with_kind, with_thread};
 ghost use Rattle.model.specs.Threads.{startable, start_change, end_rest, end_change};

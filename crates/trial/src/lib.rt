@@ -1,5 +1,7 @@
 // A small host in Rattle over the exported functions: what it holds at the end is promised to be what
 // the theorem over every list speaks of. So the theorem's hypotheses are met by real calls.
+#![tactic(auto)]
+
 ghost use Rattle.std.specs.Prelude.{◌≡◌};
 ghost use Rattle.tables.specs.Contract.{returned};
 ghost use Rattle.trial.specs.Trial.{Tried};

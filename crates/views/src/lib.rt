@@ -1,5 +1,7 @@
 // An object's data shown as a part of the permanent or scratch store itself, and the call beside it
 // that yields the status.
+#![tactic(auto)]
+
 ghost use Rattle.std.specs.Prelude.{◌≡◌, ◌<◌};
 ghost use Rattle.model.specs.Checks.{called, use_rest};
 ghost use Rattle.model.specs.Calls as calls;

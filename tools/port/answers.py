@@ -1,0 +1,295 @@
+#!/usr/bin/env python3
+"""Turns the Proof.antt files of a crate, which gave `tie.spec` its arguments, to Invariants.antt and Answers.antt.
+
+usage: cd crates/NAME && python3 ../../tools/port/answers.py [FUNCTION ..]
+
+It asks `rt check --generated DIR --old-names` for each goal's and each step's old and new name. What it can't tell it marks by '-- LEFT:'.
+"""
+import json
+import os
+import re
+import subprocess
+import sys
+import tempfile
+
+WORD = r"[A-Za-zα-ωΑ-Ω][A-Za-z0-9α-ωΑ-Ω₀-₉_']*(?:-[A-Za-z0-9α-ωΑ-Ω₀-₉_']+)*"
+
+
+def norm(name):
+    name = name.replace("_", "-").lower()
+    return re.sub(r"^overflow-", "", name)
+
+
+def names(crate):
+    with tempfile.TemporaryDirectory() as d:
+        r = subprocess.run(["rt", "check", "--generated", d, "--old-names"], stdout=subprocess.PIPE, stderr=subprocess.STDOUT, text=True)
+        path = os.path.join(d, "names.json")
+        if not os.path.exists(path):
+            sys.exit("answers.py: no names:\n" + r.stdout[-3000:])
+        return json.load(open(path))
+
+
+def blocks(text):
+    """The file as a list of blocks of lines: each begins with its comments, then a line at column 0."""
+    out, cur, body = [], [], False
+    for line in text.split("\n"):
+        top = line and not line[0].isspace()
+        if top and line.startswith("--"):
+            if body:
+                out.append(cur)
+                cur, body = [], False
+            cur.append(line)
+        elif top:
+            m = re.match(r"(?:abbrev |unfoldable |pub )*(" + WORD + r")", line)
+            name = m.group(1) if m else ""
+            if body and body != name and not line.startswith("unfolding"):
+                out.append(cur)
+                cur = []
+            if not line.startswith("unfolding"):
+                body = name
+            cur.append(line)
+        else:
+            cur.append(line)
+    if cur:
+        out.append(cur)
+    return out
+
+
+def args_of(text):
+    """The arguments of `tie.spec`, split at the top level of brackets."""
+    out, depth, cur = [], 0, ""
+    for ch in text:
+        if ch in "([{":
+            depth += 1
+        if ch in ")]}":
+            depth -= 1
+        if ch.isspace() and depth == 0:
+            if cur:
+                out.append(cur)
+            cur = ""
+        else:
+            cur += ch
+    if cur:
+        out.append(cur)
+    return out
+
+
+class Fn:
+    def __init__(self, crate, path, table):
+        self.crate, self.path, self.t = crate, path, table
+        self.goals = {norm(a): b for a, b in table["needs"]}
+        self.order = [b for _, b in table["needs"]]
+        self.places = {}
+        for (old, *_), new in zip(table["places"], table["places_by_name"]):
+            self.places.setdefault(norm(old), new)
+        self.steps = {}
+        for old, parent, (a, b), callee, typed in table["places"]:
+            if a:
+                self.steps.setdefault(norm(a), set()).add(b)
+        self.used_places = set()
+        self.left = []
+
+    def step(self, name):
+        news = self.steps.get(norm(name))
+        if not news:
+            return None
+        if len(news) > 1:
+            self.left.append(f"step {name}: one of {sorted(news)}")
+        return sorted(news, key=len)[0]
+
+    def place(self, name):
+        new = self.places.get(norm(name))
+        if not new:
+            self.left.append(f"place {name}")
+            return name
+        self.used_places.add(new)
+        return new
+
+    def body(self, text):
+        """Steps get their new names, reached without the chain of `.before`."""
+
+        def one(m):
+            chain, name = m.group(1), m.group(2)
+            if name in ("args", "requires", "lifetimes", "well_formed", "ranges", "blocks"):
+                return "." + name
+            if name == "pre":
+                return ".requires"
+            if name == "well-formed":
+                return ".well_formed"
+            new = self.step(name)
+            if new is None or name == "before":
+                return m.group(0)
+            return "." + new
+
+        text = re.sub(r"((?:\.before)*)\.(?!before)(" + WORD + r")(?=[.)\s,;]|$)", one, text)
+        text = re.sub(r"\.left(?![\w-])", ".false", text)
+        text = re.sub(r"\.taken(?![\w-])", ".true", text)
+        return text
+
+    def types(self, text):
+        text = re.sub(r"tie\.((?:After|Else|Then|Start|In|At)[\w'-]*)((?: (?:invariant|decreases|Inv|μ)[\w-]*)*)", lambda m: self.place(m.group(1)), text)
+        return text
+
+
+def loop_args(fn, old):
+    """The arguments of an invariant, by position: each variable as the loop began, then those that change."""
+    for i, ((a, b), *rest) in enumerate(fn.t["loops"]):
+        if norm(a) == norm(old):
+            return b, rest[0], fn.t["changed"][i]
+    return None
+
+
+def convert(fn, text):
+    inv, ans, head, uses = [], [], [], []
+    bl = blocks(text)
+    named = {}
+    spec = None
+    for b in bl:
+        code = [l for l in b if not l.startswith("--")]
+        if code and re.match(r"pub [\w'-]+_spec :", code[0]):
+            body = "\n".join(code[1:])
+            body = body[body.index("=") + 1 :].strip()
+            m = re.match(r"tie\.close\s*\(?\s*tie\.spec(.*)$", body, re.S) or re.match(r"tie\.close\s*\(\s*tie\.spec(.*)$", body, re.S)
+            if m:
+                rest = m.group(1).rstrip()
+                if body.rstrip().endswith(")") and re.match(r"tie\.close\s*\(", body):
+                    rest = rest[:-1]
+                spec = args_of(rest)
+            else:
+                fn.left.append("its spec: " + body[:80])
+    loops = 2 * len(fn.t["loops"])
+    position = {}
+    if spec is not None:
+        given = spec[loops:]
+        if len(given) != len(fn.order):
+            fn.left.append(f"{len(given)} answers were given, and {len(fn.order)} goals are there: {fn.order}")
+        else:
+            for a, g in zip(given, fn.order):
+                position[a] = g
+    inline = []
+    if spec is not None and position:
+        for a, g in zip(spec[loops:], fn.order):
+            if a.startswith("("):
+                m = re.match(r"\(λ ([^.]*)\. (.*)\)$", a, re.S)
+                if not m:
+                    fn.left.append("an argument: " + a[:80])
+                elif m.group(2).strip() != "search rules":
+                    inline.append((g, m.group(1).split(), m.group(2)))
+    for b in bl:
+        comments = [l for l in b if l.startswith("--")]
+        code = [l for l in b if not l.startswith("--")]
+        while code and not code[-1].strip():
+            code.pop()
+        if not code:
+            head += comments
+            continue
+        if code[0].startswith("use "):
+            head += comments
+            uses += [l for l in code if l.strip()]
+            continue
+        first = code[0]
+        if re.match(r"pub [\w'-]+_spec :", first):
+            continue
+        m = re.match(r"(?:abbrev |pub )*(" + WORD + r") : tie\.(invariant|InvT|decreases|MeasureT)-(\S+)", first)
+        if m:
+            name, kind, old = m.group(1), m.group(2), m.group(3)
+            it = loop_args(fn, old)
+            if it is None:
+                fn.left.append(f"loop {old}")
+                inv += comments + code + [""]
+                continue
+            new, variables, changed = it
+            word = "invariant" if kind in ("invariant", "InvT") else "decreases"
+            body = "\n".join(code[1:])
+            lhs, rhs = body.split("=", 1)
+            given = lhs.split()[1:]
+            want = list(zip(variables, changed))
+            begin = given[: len(want)]
+            now = given[len(want) :]
+            table = {}
+            for (v, c), x in zip(want, begin):
+                table[x] = ("l.initial." if c else "l.") + v
+            for v, x in zip([v for v, c in want if c], now):
+                table[x] = "l." + v
+            if len(begin) != len(want) or len(now) != sum(map(bool, changed)):
+                fn.left.append(f"the arguments of {name}: {given} for {want}")
+            rhs = re.sub(r"(?<![\w.'₀-₉-])(" + WORD + r")(?![\w'₀-₉])", lambda k: table.get(k.group(1), k.group(1)), rhs)
+            inv += comments + [f"abbrev pub {word}-{new} : goal.{word}-{new}", f"{word}-{new} l =" + rhs, ""]
+            continue
+        m = re.match(r"(" + WORD + r") : tie\.Need-(\S+)", first)
+        if m:
+            name, old = m.group(1), m.group(2)
+            new = position.get(name) or fn.goals.get(norm(old))
+            if not new:
+                fn.left.append(f"goal {old}")
+                new = old
+            rest = []
+            for l in code[1:]:
+                if l.startswith("unfolding"):
+                    rest.append(l)
+                else:
+                    l = re.sub(r"^" + re.escape(name) + r"(?= )", new, l)
+                    rest.append(l)
+            body = fn.body(fn.types("\n".join(rest)))
+            body = re.sub(r"(?m)^(" + re.escape(new) + r" c) κs(?= )", r"\1", body)
+            ans += comments + [f"pub {new} : goal.{new}"] + body.split("\n") + [""]
+            named[name] = new
+            continue
+        ans += comments + fn.body(fn.types("\n".join(code))).split("\n") + [""]
+    for g, binders, body in inline:
+        binders = [x for x in binders if x != "κs"]
+        ans += [f"pub {g} : goal.{g}", f"{g} {' '.join(binders)} = " + fn.body(fn.types(body)), ""]
+    module = f"Rattle.{fn.crate}.proofs.{fn.path}"
+    uses = [l for l in uses if ".Statement.{" not in l and not re.search(r"\.Tie as tie", l)]
+    return head, uses, inv, ans, module
+
+
+def used(lines, uses):
+    text = "\n".join(lines)
+    out = []
+    for l in uses:
+        m = re.match(r"use (\S+?)\.\{(.*)\}$", l)
+        if not m:
+            out.append(l)
+            continue
+        keep = []
+        for n in m.group(2).split(", "):
+            plain = n.split(" as ")[-1]
+            parts = [p for p in plain.split("◌") if p]
+            if plain == "refl" or all(re.search(r"(?<![\w'-])" + re.escape(p) + r"(?![\w'-])" if re.match(r"\w", p) else re.escape(p), text) for p in parts):
+                keep.append(n)
+        if keep:
+            out.append(f"use {m.group(1)}.{{{', '.join(keep)}}}")
+    return out
+
+
+def main():
+    crate = os.path.basename(os.getcwd())
+    table = names(crate)
+    for folder, dirs, files in os.walk("proofs"):
+        if "Proof.antt" not in files:
+            continue
+        path = os.path.relpath(folder, "proofs").replace("/", ".")
+        if sys.argv[1:] and not any(path == a or path.endswith("." + a) for a in sys.argv[1:]):
+            continue
+        key = f"Rattle-{crate}-proofs.{path}.Lts"
+        text = open(os.path.join(folder, "Proof.antt")).read()
+        if key not in table or "tie.spec" not in text:
+            print(f"LEFT: {path}: by hand")
+            continue
+        fn = Fn(crate, path, table[key])
+        head, uses, inv, ans, module = convert(fn, text)
+        if inv:
+            body = used(inv, uses)
+            with open(os.path.join(folder, "Invariants.antt"), "w") as f:
+                f.write("\n".join(body + [f"use {module}.Given as goal", ""] + inv).rstrip() + "\n")
+        if ans or fn.left:
+            places = sorted(fn.used_places)
+            body = head + used(ans, uses) + [f"use {module}.Goals as goal"] + ([f"use {module}.Goals.{{{', '.join(places)}}}"] if places else [])
+            with open(os.path.join(folder, "Answers.antt"), "w") as f:
+                f.write("\n".join(body + [""] + [f"-- LEFT: {x}" for x in fn.left] + ans).rstrip() + "\n")
+        os.remove(os.path.join(folder, "Proof.antt"))
+        print(f"{path}: {'; '.join(fn.left) if fn.left else 'turned'}")
+
+
+main()
