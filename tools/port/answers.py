@@ -74,9 +74,71 @@ def args_of(text):
     return out
 
 
+def clauses():
+    """The names of each function's several `ensures`, by its path."""
+    out = {}
+    for crate in os.listdir("../../crates"):
+        for folder, _, files in os.walk(f"../../crates/{crate}/src"):
+            for file in files:
+                inner = os.path.relpath(os.path.join(folder, file), f"../../crates/{crate}/src")[:-3].replace("/", "::")
+                mod = crate if inner in ("lib", "main") else f"{crate}::{inner}"
+                here = None
+                for line in open(os.path.join(folder, file)):
+                    m = re.match(r"(?:pub )?(?:unsafe )?(?:extern \"C\" )?fn (\w+)", line)
+                    if m:
+                        here = f"{mod}::{m.group(1)}"
+                    m = re.match(r"\s+ensures (\w+) \{", line)
+                    if m and here:
+                        out.setdefault(here, []).append(m.group(1))
+    return out
+
+
+CLAUSES = clauses()
+
+
+def as_record(body, fields):
+    """A body that ends in a tuple of as many parts, by the clauses' names."""
+    text = body.rstrip()
+    if not text.endswith(")"):
+        return None
+    depth, i = 0, len(text) - 1
+    while i >= 0:
+        if text[i] in ")]}":
+            depth += 1
+        if text[i] in "([{":
+            depth -= 1
+            if depth == 0:
+                break
+        i -= 1
+    before = text[:i].rstrip()
+    if not (before.endswith("=") or re.search(r"\bin$", before)):
+        return None
+    parts, depth, cur = [], 0, ""
+    for ch in text[i + 1 : -1]:
+        if ch in "([{":
+            depth += 1
+        if ch in ")]}":
+            depth -= 1
+        if ch == "," and depth == 0:
+            parts.append(cur)
+            cur = ""
+        else:
+            cur += ch
+    if cur.strip():
+        parts.append(cur)
+    if len(parts) != len(fields):
+        return None
+    return text[:i] + "record { " + "; ".join(f"{f} = {x.strip()}" for f, x in zip(fields, parts)) + " }"
+
+
 class Fn:
     def __init__(self, crate, path, table):
         self.crate, self.path, self.t = crate, path, table
+        self.mine = CLAUSES.get(f"{crate}::{path.replace('.', '::')}")
+        self.callees = {}
+        for old, parent, (a, b), callee, typed in table["places"]:
+            if callee in CLAUSES:
+                self.callees[b] = CLAUSES[callee]
         self.goals = {norm(a): b for a, b in table["needs"]}
         self.order = [b for _, b in table["needs"]]
         self.places = {}
@@ -122,8 +184,14 @@ class Fn:
             return "." + new
 
         text = re.sub(r"((?:\.before)*)\.(?!before)(" + WORD + r")(?=[.)\s,;]|$)", one, text)
-        text = re.sub(r"\.left(?![\w-])", ".false", text)
-        text = re.sub(r"\.taken(?![\w-])", ".true", text)
+        for b, fields in self.callees.items():
+            for i, f in enumerate(fields):
+                text = re.sub(r"(\." + re.escape(b) + r"\.ensures)\." + str(i) + r"(?!\w)", r"\1." + f, text)
+            for m in re.findall(r"let ([\w'-]+) = [\w.'-]+\." + re.escape(b) + r"\.ensures in", text):
+                for i, f in enumerate(fields):
+                    text = re.sub(r"(?<![\w.'-])" + re.escape(m) + r"\." + str(i) + r"(?!\w)", f"{m}.{f}", text)
+        text = re.sub(r"(\.if-[\w-]+)\.left(?![\w-])", r"\1.false", text)
+        text = re.sub(r"(\.if-[\w-]+)\.taken(?![\w-])", r"\1.true", text)
         return text
 
     def types(self, text):
@@ -231,6 +299,8 @@ def convert(fn, text):
                     l = re.sub(r"^" + re.escape(name) + r"(?= )", new, l)
                     rest.append(l)
             body = fn.body(fn.types("\n".join(rest)))
+            if fn.mine and new.startswith("returns"):
+                body = as_record(body, fn.mine) or body
             body = re.sub(r"(?m)^(" + re.escape(new) + r" c) κs(?= )", r"\1", body)
             ans += comments + [f"pub {new} : goal.{new}"] + body.split("\n") + [""]
             named[name] = new

@@ -13,7 +13,7 @@ use Rattle.layout.specs.Choice.{cases, and_true, or_true}
 use Rattle.layout.specs.Below.{all_below, all_each, each_all}
 use Rattle.rights.specs.declared.Right.{Right}
 use Rattle.rights.specs.declared.Right.TheVariants.{Allocate, Use}
-use Rattle.rights.specs.Rights.{Class, Heap, Immortal, Scope, class_of, class_index, right_index, digit0, digit1, table_size, place_of, allows, text_of, rights_rows, built_in}
+use Rattle.rights.specs.Rights.{Class, Heap, Immortal, Scope, class_of, class_index, digit0, digit1, table_size, place_of, allows, text_of, rights_rows, built_in}
 use Rattle.rights.specs.Rights.{is_binary, only_binary, allocator_uses, allocators_use, is_table, Loadable}
 
 class_below : (c : Class) → class_index c < 3

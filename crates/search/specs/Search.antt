@@ -1,11 +1,10 @@
 -- Laws of the jumping search: what it knows before it looks at a run, and while it does.
 -- Assumes nothing.
-use Rattle.std.specs.Prelude.{ℕ, suc, ◌+◌, ◌-◌, ◌*◌, ◌≤◌, ◌<◌, Bool, true, false, List, ◌≡◌, refl, ◌≢◌, eqb, leb, ltb}
-use Rattle.std.proofs.Common.{ap, ◌∙◌, arith, eqb-true, eq-eqb, ne_eqb, leb-true, leb-false, ltb-true, ltb-false}
-use Rattle.std.proofs.lemmas.Bool.{eqb-false}
+use Rattle.std.specs.Prelude.{ℕ, suc, ◌+◌, ◌-◌, ◌*◌, ◌≤◌, ◌<◌, false, List, ◌≡◌, refl, ◌≢◌, leb, ltb}
+use Rattle.std.proofs.Common.{arith, eq-eqb, ne_eqb, leb-true, leb-false, ltb-true, ltb-false}
 use Rattle.layout.specs.Choice.{cases}
 use Rattle.bitmap.specs.Bitmap.{bit_at}
-use Rattle.runs.specs.LowestRun.{is_run, lowest_run, is_clear, Lowest, no_run, lowest_one}
+use Rattle.runs.specs.LowestRun.{is_run, lowest_run, is_clear, no_run, lowest_one}
 
 module _ (m : List ℕ) (n bits : ℕ) where
   -- before the run from `start` on is looked at: no lower start has one, the bits from there to bit `seen` were seen to be clear, and there were

@@ -2,12 +2,8 @@
 use Prim.Native.Nat.{◌/◌, ◌^◌}
 use lib.Bits.{and_mask}
 use Rattle.layout.specs.Header.{data_of}
-use Rattle.layout.proofs.handle.data_words.Statement.{statement}
-use Rattle.layout.proofs.handle.data_words.Tie as tie
+use Rattle.layout.proofs.handle.data_words.Goals as goal
 
-returns : tie.Need-returns
+pub returns : goal.returns
 unfolding data_of
 returns c = and_mask (c.args.header / 2 ^ 14) 14
-
-pub data_words_spec : {M : Type 1} → statement M
-data_words_spec = tie.close (tie.spec returns)

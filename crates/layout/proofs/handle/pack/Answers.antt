@@ -1,12 +1,8 @@
 -- `pack` meets its contract: three fields that do not overlap are their sum.
 use Rattle.layout.proofs.Shifts.{three_fields}
 use Rattle.layout.specs.Handle.{handle_of}
-use Rattle.layout.proofs.handle.pack.Statement.{statement}
-use Rattle.layout.proofs.handle.pack.Tie as tie
+use Rattle.layout.proofs.handle.pack.Goals as goal
 
-returns : tie.Need-returns
+pub returns : goal.returns
 unfolding handle_of
 returns c = three_fields c.args.offset c.args.area c.args.generation
-
-pub pack_spec : {M : Type 1} → statement M
-pack_spec = tie.close (tie.spec returns)

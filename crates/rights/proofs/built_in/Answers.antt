@@ -1,12 +1,8 @@
 -- `built_in` meets its contract: antt computes the 36 digits of the definition and compares them with the code's.
 use mathlib.Core.Path.{refl}
 use Rattle.rights.specs.Rights.{text_of, rights_rows, built_in}
-use Rattle.rights.proofs.built_in.Statement.{statement}
-use Rattle.rights.proofs.built_in.Tie as tie
+use Rattle.rights.proofs.built_in.Goals as goal
 
-returns : tie.Need-returns
+pub returns : goal.returns
 unfolding built_in text_of rights_rows
 returns c = refl
-
-pub built_in_spec : {M : Type 1} → statement M
-built_in_spec = tie.close (tie.spec returns)
