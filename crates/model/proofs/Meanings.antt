@@ -15,7 +15,7 @@ use Rattle.model.specs.State.{State, Memory, area_at, current, store_of}
 use Rattle.model.specs.Calls.{Call, start, end, make, enter, exit, start_helper, remove, allocate, store, write, asks, configure}
 use Rattle.model.specs.Run.{Line, World}
 use Rattle.model.specs.History.{Object, History, thread_row, below, occurrences, handles, is_scope_on_none, history_thread, history_size, history_enter, history_exit, history_allocate, history_words, history_step, history_line, history_from, history_of}
-use Rattle.model.specs.Claims.{Open, Walk, ends, goes, Meets, here, up, InOrder, keep, skip, on_row, scan, In, Among, Within, Allocates, Since, made, stays, Names, newest, Claims}
+use Rattle.model.specs.Claims.{Open, Walk, ends, goes, Meets, here, up, InOrder, none, keep, skip, on_row, scan, In, Among, Within, Allocates, Since, made, stays, Names, newest, Claims}
 use Rattle.model.proofs.Lists.{on_one, occ_le_total, occ_nil, occ_other}
 use Rattle.model.proofs.Memory.{put_same, put_other}
 use Rattle.model.proofs.Traces.{among_some}
@@ -153,6 +153,7 @@ met_among h (goes k w) here = Among.first
 met_among h (goes k w) (up j m) = Among.later (met_among h w m)
 
 among_met : {parent : ℕ → ℕ} {a b : ℕ} {l : List ℕ} → Walk parent b l → Among a l → Meets parent a b
+among_met {parent = parent} {a = a} ends i = elim i [ ]
 among_met (goes k w) Among.first = here
 among_met (goes k w) (Among.later i) = up k (among_met w i)
 
@@ -167,6 +168,7 @@ order_below (skip {x = x} o) = let z = order_below o in (x ∷ z.0, z.1, ap (λ 
 
 -- so what is in order on a row stands on it
 pub order_among : {x : ℕ} {l r : List ℕ} → InOrder l r → Among x l → Among x r
+order_among (none {r = r}) i = elim i [ ]
 order_among (keep o) Among.first = Among.first
 order_among (keep o) (Among.later i) = Among.later (order_among o i)
 order_among (skip o) i = Among.later (order_among o i)
