@@ -96,6 +96,19 @@ def clauses():
 CLAUSES = clauses()
 
 
+def parameters(crate):
+    """The names of each function's parameters, by its path."""
+    out = {}
+    for folder, _, files in os.walk("src"):
+        for file in files:
+            inner = os.path.relpath(os.path.join(folder, file), "src")[:-3].replace("/", "::")
+            mod = crate if inner in ("lib", "main") else f"{crate}::{inner}"
+            text = open(os.path.join(folder, file)).read()
+            for m in re.finditer(r"fn (\w+)(?:<[^>]*>)?\(([^{]*?)\)\s*(?:->|\n|\{|requires|ensures)", text):
+                out[f"{mod}::{m.group(1)}"] = re.findall(r"(?:^|,)\s*(?:mut )?(\w+):", m.group(2))
+    return out
+
+
 def as_record(body, fields):
     """A body that ends in a tuple of as many parts, by the clauses' names."""
     text = body.rstrip()
@@ -135,6 +148,7 @@ class Fn:
     def __init__(self, crate, path, table):
         self.crate, self.path, self.t = crate, path, table
         self.mine = CLAUSES.get(f"{crate}::{path.replace('.', '::')}")
+        self.params = PARAMETERS.get(f"{crate}::{path.replace('.', '::')}", [])
         self.callees = {}
         for old, parent, (a, b), callee, typed in table["places"]:
             if callee in CLAUSES:
@@ -170,8 +184,20 @@ class Fn:
     def body(self, text):
         """Steps get their new names, reached without the chain of `.before`."""
 
+        aliases = set(re.findall(r"let ([\w'-]+) = (?:[^\n]*\.)?args in", text))
+        loops = set(re.findall(r"let ([\w'-]+) = (?:[^\n]*\.)?(?:loop\d*|" + "|".join(a for (a, b), *_ in self.t["loops"]) + r") in", text)) if self.t["loops"] else set()
+        variables = {v for _, vs, *_ in self.t["loops"] for v in vs}
+
         def one(m):
             chain, name = m.group(1), m.group(2)
+            before = re.search(r"([\w'-]+)$", text[: m.start()])
+            last = before.group(1) if before else ""
+            if not chain and (last == "args" or last in aliases):
+                if re.match(r"t\d+$", name) and int(name[1:]) <= len(self.params):
+                    return "." + self.params[int(name[1:]) - 1]
+                return m.group(0)
+            if not chain and name in variables and (last in loops or re.match(r"(loop|search)", last)):
+                return m.group(0)
             if name in ("args", "requires", "lifetimes", "well_formed", "ranges", "blocks"):
                 return "." + name
             if name == "pre":
@@ -190,6 +216,20 @@ class Fn:
             for m in re.findall(r"let ([\w'-]+) = [\w.'-]+\." + re.escape(b) + r"\.ensures in", text):
                 for i, f in enumerate(fields):
                     text = re.sub(r"(?<![\w.'-])" + re.escape(m) + r"\." + str(i) + r"(?!\w)", f"{m}.{f}", text)
+        # a name for an earlier step, of which only parts are used: the record at the goal has them all
+        for _ in range(8):
+            m = re.search(r"let ([\w'-]+) = ([\w'-]+)(?:\.before)* in\s+", text)
+            while m:
+                name, base = m.group(1), m.group(2)
+                rest = text[m.end() :]
+                if not re.search(r"(?<![\w.'₀-₉-])" + re.escape(name) + r"(?![\w'₀-₉.-])", rest) and ".before" not in re.sub(r"let [\w'-]+ = [\w'-]+(?:\.before)* in", "", rest):
+                    rest = re.sub(r"(?<![\w.'₀-₉-])" + re.escape(name) + r"(?=\.)", base, rest)
+                    text = text[: m.start()] + rest
+                    break
+                nxt = re.compile(r"let ([\w'-]+) = ([\w'-]+)(?:\.before)* in\s+").search(text, m.end())
+                m = nxt
+            if not m:
+                break
         text = re.sub(r"(\.if-[\w-]+)\.left(?![\w-])", r"\1.false", text)
         text = re.sub(r"(\.if-[\w-]+)\.taken(?![\w-])", r"\1.true", text)
         return text
@@ -336,6 +376,8 @@ def used(lines, uses):
 def main():
     crate = os.path.basename(os.getcwd())
     table = names(crate)
+    global PARAMETERS
+    PARAMETERS = parameters(crate)
     for folder, dirs, files in os.walk("proofs"):
         if "Proof.antt" not in files:
             continue

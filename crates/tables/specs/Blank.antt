@@ -7,7 +7,7 @@ use Rattle.rights.specs.Rights.{table_size}
 use Rattle.model.specs.State.{State, no_area}
 use Rattle.model.specs.SetUp.{new_thread}
 use Rattle.tables.specs.Cut.{cut, each, each_length, each_at}
-use Rattle.tables.specs.Decode.{area_count, thread_count, area_index, thread_index, lengths_at, used_bits_at, used_bits_words, word_count, row_bytes, row_index, inner_rows, display_rows, rights_at, byte_count, area_record, byte_row, thread_of, display_row, used_bits_of, rights_of, state_of, Shaped, Holds}
+use Rattle.tables.specs.Decode.{area_count, thread_count, area_index, thread_index, lengths_at, used_bits_at, used_bits_words, word_count, row_bytes, row_index, inner_rows, display_rows, rights_at, byte_count, area_record, byte_row, thread_of, display_row, used_bits_of, rights_of, state_of, Holds}
 
 each_const : {A : Type 0} (f : ℕ → A) (n : ℕ) (x : A) → ((j : ℕ) → f j ≡ x) → each f n ≡ replicate n x
 each_const f n x h =

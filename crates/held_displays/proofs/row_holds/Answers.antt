@@ -12,8 +12,7 @@ use Rattle.layout.specs.Choice.{cases}
 use Rattle.layout.specs.Display.{row_holds}
 use Rattle.tables.specs.Decode.{row_bytes, row_index, display_rows, display_row}
 use Rattle.tables.specs.Laws.{byte_read}
-use Rattle.held_displays.proofs.row_holds.Statement.{statement}
-use Rattle.held_displays.proofs.row_holds.Tie as tie
+use Rattle.held_displays.proofs.row_holds.Goals as goal
 
 -- a look at a depth sees one element of the row
 part_holds : (b : List ℕ) (a d x : ℕ) → d ≤ row_bytes → row_holds (take row_bytes (drop (row_index (display_rows + a)) b)) d x ≡ row_holds (display_row b a) d x
@@ -24,21 +23,8 @@ part_holds b a d x h =
     rw (e, get_or-take row_bytes (drop (row_index (display_rows + a)) b) (d - 1) 0 k, get_or-drop (row_index (display_rows + a)) b (d - 1) 0, byte_read b (display_rows + a) (d - 1) k))
     (λ e. rw e)
 
-returns : tie.Need-returns
+pub returns : goal.returns
 returns c =
-    let a = c.before.before.before.args in
+    let a = c.args in
     let n : row_index (display_rows + a.b) + row_bytes - row_index (display_rows + a.b) ≡ row_bytes = omega arith in
     (rw n at c.holds.ensures) ∙ part_holds a.bytes.now a.b a.depth.0 a.area (search rules)
-
-pub row_holds_spec : {M : Type 1} → statement M
-row_holds_spec =
-    tie.close
-    (tie.spec
-    (λ c. search rules)
-    (λ c. search rules)
-    (λ c. search rules)
-    (λ c. search rules)
-    (λ c. search rules)
-    (λ c. search rules)
-    (λ c κs. search rules)
-    returns)
