@@ -20,7 +20,7 @@ use Rattle.model.proofs.Accepted.{Admitted, allocate_ok}
 use Rattle.model.proofs.Outcomes.{fit_fitted}
 use Rattle.tables.specs.Decode.{state_of, put_area, Holds}
 use Rattle.tables.specs.Laws.{state_area}
-use Rattle.tables.specs.Contract.{Cell, Borrowed, state_in, memory_in, before, supplied, returned, Ready, Usable, memory_of}
+use Rattle.tables.specs.Contract.{Ready, memory_of}
 use Rattle.callers.specs.Caller.{caller_refused, called_rest}
 use Rattle.model.proofs.PlacedWords.{supplied_lengths}
 use Rattle.objects.specs.Fits.{fits_stores}
@@ -43,15 +43,9 @@ pub record ObjectMade (value : ℕ) (w b : List ℕ) (x : Memory) (s : State) (m
   pub holds : Holds w b (allocate_state s a slots data_words)
   pub memory_is : x ≡ allocate_memory s m a slots data_words
 
--- the same over what a function is lent
-abbrev pub MakesObject : ℕ → Borrowed → Borrowed → Borrowed → Borrowed → Borrowed → Borrowed → ℕ → ℕ → ℕ → Type 0
-MakesObject value words bytes permanent scratch map written a slots data_words =
-    ObjectMade value words.exit.now bytes.exit.now (returned permanent scratch map written)
-    (before words bytes) (supplied permanent scratch map written) a slots data_words
-
 -- what it asks: the call has passed refusal 1
-abbrev pub Lent : Cell → Cell → Cell → Cell → Cell → Cell → Type 0
-Lent words bytes permanent scratch map written = Usable words bytes × (fits (state_in words bytes) (memory_in permanent scratch map written) ≡ true)
+abbrev pub Lent : List ℕ → List ℕ → Memory → Type 0
+Lent w b m = Ready w b × (fits (state_of w b) m ≡ true)
 
 -- ---- the checks
 

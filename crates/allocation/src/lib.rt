@@ -3,8 +3,9 @@
 
 ghost use Rattle.std.specs.Prelude.{◌≡◌, ◌≤◌, min};
 ghost use Rattle.model.specs.Calls as calls;
-ghost use Rattle.tables.specs.Contract.{state_in, Usable, Answers};
-ghost use Rattle.allocation.specs.Allocation.{area_rest, HasRoom, MakesObject, Lent};
+ghost use Rattle.tables.specs.Contract.{Answers, Ready, memory_of};
+ghost use Rattle.allocation.specs.Allocation.{area_rest, HasRoom, Lent, ObjectMade};
+ghost use Rattle.tables.specs.Decode.{state_of};
 
 use layout::answer::Answer;
 use layout::handle;
@@ -54,8 +55,13 @@ fn apply_allocate(
     slots: u64,
     data_words: u64,
 ) -> u64
-    requires { Lent words bytes permanent scratch map written × HasRoom (state_in words bytes) area x slots data_words }
-    ensures { MakesObject result words bytes permanent scratch map written area slots data_words }
+    requires { Lent words.old bytes.now (memory_of permanent.old scratch.old map.old written.old) × HasRoom (state_of words.old bytes.now) area x slots data_words }
+    ensures {
+        ObjectMade result
+        words.new bytes.now (memory_of permanent.new scratch.new map.new written.new)
+        (state_of words.old bytes.now) (memory_of permanent.old scratch.old map.old written.old)
+        area slots data_words
+    }
 {
     let used = x.used + 1 + slots + data_words;
     let next = Area {
@@ -90,8 +96,12 @@ pub fn allocate(
     slots: u64,
     data_words: u64,
 ) -> Answer
-    requires { Usable words bytes }
-    ensures { Answers result words bytes permanent scratch map written (calls.allocate t slots data_words) }
+    requires { Ready words.old bytes.now }
+    ensures {
+        Answers result (calls.allocate t slots data_words)
+        words.old bytes.now (memory_of permanent.old scratch.old map.old written.old)
+        words.new bytes.now (memory_of permanent.new scratch.new map.new written.new)
+    }
 {
     let status = callers::check_caller(words, bytes, permanent, scratch, map, written, t);
     if status != 0 {

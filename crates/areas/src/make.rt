@@ -4,8 +4,9 @@ ghost use Rattle.model.specs.Blocks.{room_for};
 ghost use Rattle.model.specs.Scopes.{make_state, make_change};
 ghost use Rattle.model.specs.Calls as calls;
 ghost use Rattle.model.proofs.Accepted.{MakeOk};
-ghost use Rattle.tables.specs.Contract.{state_in, before, Leaves, Usable, Changes, Answers};
+ghost use Rattle.tables.specs.Contract.{Changes, Answers, Ready, memory_of};
 ghost use Rattle.areas.specs.Make.{room_checked, make_checked};
+ghost use Rattle.tables.specs.Decode.{state_of, Holds};
 
 use layout::answer::Answer;
 use tables::{Bytes, Words};
@@ -20,8 +21,8 @@ pub enum Checked {
 // Refusal 8, or the first block of the room for r words: of the lowest run of free blocks that holds them. A size that
 // all blocks together do not hold is told first, so that no sum wraps.
 fn find_room(words: &Words, bytes: &Bytes, r: u64) -> Checked
-    requires { Usable words bytes }
-    ensures { result ≡ room_checked (before words bytes) r }
+    requires { Ready words.now bytes.now }
+    ensures { result ≡ room_checked (state_of words.now bytes.now) r }
 {
     let blocks = held_lengths::lengths_at(words).scratch / 16;
     if r == 0 {
@@ -38,8 +39,8 @@ fn find_room(words: &Words, bytes: &Bytes, r: u64) -> Checked
 }
 
 fn check_make(words: &Words, bytes: &Bytes, t: u64, q: u64, r: u64) -> Checked
-    requires { Usable words bytes }
-    ensures { result ≡ make_checked (before words bytes) t q r }
+    requires { Ready words.now bytes.now }
+    ensures { result ≡ make_checked (state_of words.now bytes.now) t q r }
 {
     let refusal = callers::check_thread(words, bytes, t);
     if refusal != 0 {
@@ -59,8 +60,8 @@ fn check_make(words: &Words, bytes: &Bytes, t: u64, q: u64, r: u64) -> Checked
 
 // Scope q gets the r words from its first block on, and its blocks, which were free, are used.
 fn apply_make(words: &mut Words, bytes: &Bytes, t: u64, q: usize, r: u64, first: usize)
-    requires { Usable words bytes × MakeOk (state_in words bytes) t q r × (first ≡ room_for (state_in words bytes) r) }
-    ensures { Leaves words bytes (make_state (before words bytes) q r) }
+    requires { Ready words.old bytes.now × MakeOk (state_of words.old bytes.now) t q r × (first ≡ room_for (state_of words.old bytes.now) r) }
+    ensures { Holds words.new bytes.now (make_state (state_of words.old bytes.now) q r) }
 {
     let x = held_areas::area_at(words, q);
     held_areas::put_area(words, q, held_areas::placed(x, 16 * first as u64, r));
@@ -69,8 +70,11 @@ fn apply_make(words: &mut Words, bytes: &Bytes, t: u64, q: usize, r: u64, first:
 
 // After refusal 1.
 pub fn make_on(words: &mut Words, bytes: &Bytes, t: u64, q: u64, r: u64) -> Answer
-    requires { Usable words bytes }
-    ensures { Changes result words bytes (make_change (before words bytes) t q r) }
+    requires { Ready words.old bytes.now }
+    ensures {
+        Changes result (make_change (state_of words.old bytes.now) t q r)
+        words.old bytes.now words.new bytes.now
+    }
 {
     let checked = check_make(words, bytes, t, q, r);
     match checked {
@@ -96,8 +100,12 @@ pub fn make(
     q: u64,
     r: u64,
 ) -> Answer
-    requires { Usable words bytes }
-    ensures { Answers result words bytes permanent scratch map written (calls.make t q r) }
+    requires { Ready words.old bytes.now }
+    ensures {
+        Answers result (calls.make t q r)
+        words.old bytes.now (memory_of permanent.now scratch.now map.now written.now)
+        words.new bytes.now (memory_of permanent.now scratch.now map.now written.now)
+    }
 {
     let fit = callers::lengths_fit(words, bytes, permanent, scratch, map, written);
     if !fit {

@@ -1,7 +1,8 @@
 // Refusals 1 and 2, with which every call begins.
 ghost use Rattle.std.specs.Prelude.{◌≡◌};
 ghost use Rattle.model.specs.Checks.{fits, called, admit};
-ghost use Rattle.tables.specs.Contract.{before, supplied};
+ghost use Rattle.tables.specs.Decode.{state_of};
+ghost use Rattle.tables.specs.Contract.{memory_of};
 
 use tables::{Bytes, Words};
 
@@ -15,7 +16,7 @@ pub fn lengths_fit(
     map: &[u64],
     written: &[u64],
 ) -> bool
-    ensures { result ≡ fits (before words bytes) (supplied permanent scratch map written) }
+    ensures { result ≡ fits (state_of words.now bytes.now) (memory_of permanent.now scratch.now map.now written.now) }
 {
     if permanent.len() as u64 != held_lengths::lengths_at(words).permanent {
         return false;
@@ -31,7 +32,7 @@ pub fn lengths_fit(
 
 // Refusal 2, for every call but op 01, whose thread is not started yet.
 pub fn check_thread(words: &Words, bytes: &Bytes, t: u64) -> u64
-    ensures { result ≡ called (before words bytes) t 0 }
+    ensures { result ≡ called (state_of words.now bytes.now) t 0 }
 {
     if 16 <= t {
         return 2; // above 15
@@ -52,7 +53,7 @@ pub fn check_caller(
     written: &[u64],
     t: u64,
 ) -> u64
-    ensures { result ≡ admit (before words bytes) (supplied permanent scratch map written) t 0 }
+    ensures { result ≡ admit (state_of words.now bytes.now) (memory_of permanent.now scratch.now map.now written.now) t 0 }
 {
     let fit = lengths_fit(words, bytes, permanent, scratch, map, written);
     if !fit {

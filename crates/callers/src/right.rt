@@ -3,8 +3,8 @@ ghost use Rattle.std.specs.Prelude.{◌≡◌, ◌<◌, ◌≤◌};
 ghost use Rattle.rights.specs.Rights.{class_of, allows};
 ghost use Rattle.model.specs.Checks.{has_right};
 ghost use Rattle.model.proofs.Accepted.{Called};
-ghost use Rattle.tables.specs.Decode.{rights_of};
-ghost use Rattle.tables.specs.Contract.{state_in, before, Usable};
+ghost use Rattle.tables.specs.Decode.{rights_of, state_of};
+ghost use Rattle.tables.specs.Contract.{Ready};
 
 use rights::Right;
 use tables::{Bytes, Words};
@@ -20,8 +20,8 @@ pub fn kind_may(bytes: &Bytes, kind: u64, right: Right, area: u64) -> bool
 
 // Whether a started thread has a right in an area.
 pub fn has_right(words: &Words, bytes: &Bytes, t: usize, right: Right, area: u64) -> bool
-    requires { Usable words bytes × Called (state_in words bytes) t }
-    ensures { result ≡ has_right (before words bytes) t right area }
+    requires { Ready words.now bytes.now × Called (state_of words.now bytes.now) t }
+    ensures { result ≡ has_right (state_of words.now bytes.now) t right area }
 {
     let kind = held_threads::thread_at(words, t).kind;
     kind_may(bytes, kind, right, area)

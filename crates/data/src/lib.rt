@@ -2,7 +2,7 @@
 #![tactic(auto)]
 
 ghost use Rattle.model.specs.Calls as calls;
-ghost use Rattle.tables.specs.Contract.{Usable, Answers};
+ghost use Rattle.tables.specs.Contract.{Answers, Ready, memory_of};
 
 use layout::answer::Answer;
 use objects::{Indexed, Part};
@@ -21,8 +21,12 @@ pub fn write(
     q: u64,
     word: u64,
 ) -> Answer
-    requires { Usable words bytes }
-    ensures { Answers result words bytes permanent scratch map written (calls.write t p q word) }
+    requires { Ready words.now bytes.now }
+    ensures {
+        Answers result (calls.write t p q word)
+        words.now bytes.now (memory_of permanent.old scratch.old map.now written.old)
+        words.now bytes.now (memory_of permanent.new scratch.new map.now written.new)
+    }
 {
     let refusal = callers::check_caller(words, bytes, permanent, scratch, map, written, t);
     if refusal != 0 {
@@ -55,8 +59,12 @@ pub fn read<'a>(
     p: u64,
     q: u64,
 ) -> Answer
-    requires { Usable words bytes }
-    ensures { Answers result words bytes permanent scratch map written (calls.read t p q) }
+    requires { Ready words.now bytes.now }
+    ensures {
+        Answers result (calls.read t p q)
+        words.now bytes.now (memory_of permanent.now scratch.now map.now written.now)
+        words.now bytes.now (memory_of permanent.now scratch.now map.now written.now)
+    }
 {
     let refusal = callers::check_caller(words, bytes, permanent, scratch, map, written, t);
     if refusal != 0 {

@@ -5,8 +5,9 @@ ghost use Rattle.std.specs.Prelude.{◌≡◌, ◌<◌, ◌≤◌};
 ghost use Rattle.model.specs.Scopes.{enter_change};
 ghost use Rattle.model.specs.Calls as calls;
 ghost use Rattle.model.proofs.Accepted.{Called};
-ghost use Rattle.tables.specs.Contract.{state_in, before, Usable, Changes, Answers};
+ghost use Rattle.tables.specs.Contract.{Changes, Answers, Ready, memory_of};
 ghost use Rattle.entry.specs.Enter.{there_rest, scope_rest};
+ghost use Rattle.tables.specs.Decode.{state_of};
 
 use layout::answer::Answer;
 use model::Area;
@@ -21,8 +22,8 @@ const LAST_GENERATION: u64 = 17592186044415;
 // 6, 5 and 9, of a started thread and an area below 64. The right is read after 6 is tested: read before, both
 // tests would be kept as flags.
 fn check_there(words: &Words, bytes: &Bytes, t: usize, q: u64) -> u64
-    requires { Usable words bytes × Called (state_in words bytes) t × (q < 64) }
-    ensures { result ≡ there_rest (before words bytes) t q 0 }
+    requires { Ready words.now bytes.now × Called (state_of words.now bytes.now) t × (q < 64) }
+    ensures { result ≡ there_rest (state_of words.now bytes.now) t q 0 }
 {
     let x = held_areas::area_at(words, q as usize);
     if !held_areas::is_made(x, q) {
@@ -57,8 +58,11 @@ fn check_scope(x: Area, inner: u64) -> u64
 
 // A started thread enters the heap or immortal memory, which only adds an entry.
 fn enter_standing(words: &mut Words, bytes: &mut Bytes, t: usize, q: u64) -> Answer
-    requires { Usable words bytes × Called (state_in words bytes) t × (q < 2) }
-    ensures { Changes result words bytes (enter_change (before words bytes) t q) }
+    requires { Ready words.old bytes.old × Called (state_of words.old bytes.old) t × (q < 2) }
+    ensures {
+        Changes result (enter_change (state_of words.old bytes.old) t q)
+        words.old bytes.old words.new bytes.new
+    }
 {
     let refusal = check_there(words, bytes, t, q);
     if refusal != 0 {
@@ -79,8 +83,11 @@ fn enter_standing(words: &mut Words, bytes: &mut Bytes, t: usize, q: u64) -> Ans
 // A started thread enters a scope. The innermost scope is looked up once, for 10 and for the effect, and not before
 // the other checks: a register fewer is saved.
 fn enter_scope(words: &mut Words, bytes: &mut Bytes, t: usize, q: u64) -> Answer
-    requires { Usable words bytes × Called (state_in words bytes) t × (2 ≤ q) × (q < 64) }
-    ensures { Changes result words bytes (enter_change (before words bytes) t q) }
+    requires { Ready words.old bytes.old × Called (state_of words.old bytes.old) t × (2 ≤ q) × (q < 64) }
+    ensures {
+        Changes result (enter_change (state_of words.old bytes.old) t q)
+        words.old bytes.old words.new bytes.new
+    }
 {
     let refusal = check_there(words, bytes, t, q);
     if refusal != 0 {
@@ -101,8 +108,11 @@ fn enter_scope(words: &mut Words, bytes: &mut Bytes, t: usize, q: u64) -> Answer
 // Op 04, after refusal 1: area q; the value is its generation. Scopes have a function of their own, so that
 // whether q is one is tested once.
 pub fn enter_on(words: &mut Words, bytes: &mut Bytes, t: u64, q: u64) -> Answer
-    requires { Usable words bytes }
-    ensures { Changes result words bytes (enter_change (before words bytes) t q) }
+    requires { Ready words.old bytes.old }
+    ensures {
+        Changes result (enter_change (state_of words.old bytes.old) t q)
+        words.old bytes.old words.new bytes.new
+    }
 {
     let refusal = callers::check_thread(words, bytes, t);
     if refusal != 0 {
@@ -133,8 +143,12 @@ pub fn enter(
     t: u64,
     q: u64,
 ) -> Answer
-    requires { Usable words bytes }
-    ensures { Answers result words bytes permanent scratch map written (calls.enter t q) }
+    requires { Ready words.old bytes.old }
+    ensures {
+        Answers result (calls.enter t q)
+        words.old bytes.old (memory_of permanent.now scratch.now map.now written.now)
+        words.new bytes.new (memory_of permanent.now scratch.now map.now written.now)
+    }
 {
     let fit = callers::lengths_fit(words, bytes, permanent, scratch, map, written);
     if !fit {

@@ -6,8 +6,8 @@ ghost use Rattle.layout.specs.Choice.{pick};
 ghost use Rattle.model.specs.State.{is_scope, area_at, thread_at, with_thread};
 ghost use Rattle.model.specs.Scopes.{exit_rest, left, left_area, popped, exit_state, exit_value, exit_change};
 ghost use Rattle.model.specs.Calls as calls;
-ghost use Rattle.tables.specs.Decode.{area_record, put_area, Shaped};
-ghost use Rattle.tables.specs.Contract.{state_in, before, Leaves, Usable, Changes, Answers};
+ghost use Rattle.tables.specs.Decode.{area_record, put_area, Shaped, state_of, Holds};
+ghost use Rattle.tables.specs.Contract.{Changes, Answers, Ready, memory_of};
 
 use layout::answer::Answer;
 use model::Area;
@@ -15,8 +15,8 @@ use tables::{Bytes, ThreadWords, Words};
 
 // 2 and 11. A thread that is not started has no entry, so its kind is looked at only where the stack is empty.
 fn check_exit(words: &Words, bytes: &Bytes, t: u64) -> u64
-    requires { Usable words bytes }
-    ensures { result ≡ exit_rest (before words bytes) t }
+    requires { Ready words.now bytes.now }
+    ensures { result ≡ exit_rest (state_of words.now bytes.now) t }
 {
     if 16 <= t {
         return 2; // above 15
@@ -75,9 +75,9 @@ fn leave_scope(words: &mut Words, q: usize) -> u64
 
 // Area q is left; the count that is left of a scope, else 0.
 fn leave_area(words: &mut Words, bytes: &Bytes, q: usize) -> u64
-    requires { Shaped words.old bytes.now × (q < 64) × (2 ≤ q → 0 < (area_at (state_in words bytes) q).count) }
-    ensures value { result ≡ pick (is_scope q) (pred (area_at (before words bytes) q).count) 0 }
-    ensures state { Leaves words bytes (left_area (before words bytes) q) }
+    requires { Shaped words.old bytes.now × (q < 64) × (2 ≤ q → 0 < (area_at (state_of words.old bytes.now) q).count) }
+    ensures value { result ≡ pick (is_scope q) (pred (area_at (state_of words.old bytes.now) q).count) 0 }
+    ensures state { Holds words.new bytes.now (left_area (state_of words.old bytes.now) q) }
 {
     if 2 <= q {
         return leave_scope(words, q);
@@ -87,8 +87,8 @@ fn leave_area(words: &mut Words, bytes: &Bytes, q: usize) -> u64
 
 // The top entry is taken off.
 fn pop(words: &mut Words, bytes: &Bytes, t: usize)
-    requires { Shaped words.old bytes.now × (t < 16) × (0 < (thread_at (state_in words bytes) t).len) }
-    ensures { Leaves words bytes (with_thread (before words bytes) t (popped (thread_at (before words bytes) t))) }
+    requires { Shaped words.old bytes.now × (t < 16) × (0 < (thread_at (state_of words.old bytes.now) t).len) }
+    ensures { Holds words.new bytes.now (with_thread (state_of words.old bytes.now) t (popped (thread_at (state_of words.old bytes.now) t))) }
 {
     let h = held_threads::thread_at(words, t);
     let len = h.len - 1;
@@ -98,9 +98,9 @@ fn pop(words: &mut Words, bytes: &Bytes, t: usize)
 // The effect of an accepted exit. The stack is written before the area: the length is then the one that was read for
 // the checks.
 fn apply_exit(words: &mut Words, bytes: &Bytes, t: usize) -> u64
-    requires { Usable words bytes × (t < 16) × (0 < (thread_at (state_in words bytes) t).len) }
-    ensures value { result ≡ exit_value (before words bytes) t }
-    ensures state { Leaves words bytes (exit_state (before words bytes) t) }
+    requires { Ready words.old bytes.now × (t < 16) × (0 < (thread_at (state_of words.old bytes.now) t).len) }
+    ensures value { result ≡ exit_value (state_of words.old bytes.now) t }
+    ensures state { Holds words.new bytes.now (exit_state (state_of words.old bytes.now) t) }
 {
     let top = callers::top_entry(words, bytes, t).area;
     pop(words, bytes, t);
@@ -109,8 +109,11 @@ fn apply_exit(words: &mut Words, bytes: &Bytes, t: usize) -> u64
 
 // After refusal 1.
 pub fn exit_on(words: &mut Words, bytes: &Bytes, t: u64) -> Answer
-    requires { Usable words bytes }
-    ensures { Changes result words bytes (exit_change (before words bytes) t) }
+    requires { Ready words.old bytes.now }
+    ensures {
+        Changes result (exit_change (state_of words.old bytes.now) t)
+        words.old bytes.now words.new bytes.now
+    }
 {
     let status = check_exit(words, bytes, t);
     if status != 0 {
@@ -131,8 +134,12 @@ pub fn exit(
     written: &[u64],
     t: u64,
 ) -> Answer
-    requires { Usable words bytes }
-    ensures { Answers result words bytes permanent scratch map written (calls.exit t) }
+    requires { Ready words.old bytes.now }
+    ensures {
+        Answers result (calls.exit t)
+        words.old bytes.now (memory_of permanent.now scratch.now map.now written.now)
+        words.new bytes.now (memory_of permanent.now scratch.now map.now written.now)
+    }
 {
     let fit = callers::lengths_fit(words, bytes, permanent, scratch, map, written);
     if !fit {

@@ -1,5 +1,4 @@
 -- What a run of the program is, and what holds of it.
 pub mod Progress
-pub mod Clauses
 pub mod ProgressLaws
 pub mod Whole

@@ -17,8 +17,7 @@ ghost use Rattle.std.specs.Prelude.{◌≡◌, ◌*◌, ◌≤◌, length, repli
 ghost use Rattle.tables.specs.Contract.{Ready};
 ghost use Rattle.line_answers.specs.Output.{first_world};
 ghost use Rattle.line_answers.specs.Answered.{core, Represents};
-ghost use Rattle.frames.specs.Progress.{Continues};
-ghost use Rattle.frames.specs.Clauses.{AllAnswered};
+ghost use Rattle.frames.specs.Progress.{Continues, Ran};
 
 use rounds::Output;
 use tables::{Bytes, Words};
@@ -57,7 +56,12 @@ fn answer_all(
 ) -> Ended
     requires lent { (Ready words.old bytes.old) × (length input.old ≡ 16384) × (19 * length input.old ≤ length output.old) }
     requires first { Represents (core words.old bytes.old permanent.old scratch.old map.old written.old) first_world }
-    ensures { AllAnswered words bytes permanent scratch map written input output result }
+    ensures {
+        Ran
+        (core words.old bytes.old permanent.old scratch.old map.old written.old)
+        (core words.new bytes.new permanent.new scratch.new map.new written.new)
+        input.new output.new result
+    }
 {
     let mut line = [0u8; 40];
     let mut len = 0;

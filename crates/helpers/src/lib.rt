@@ -6,8 +6,8 @@ ghost use Rattle.model.specs.State.{area_at, stack_at};
 ghost use Rattle.model.specs.Helpers.{may_enter_all, helper_rest, raised_area, raised, helper_state, helper_change};
 ghost use Rattle.model.specs.Calls as calls;
 ghost use Rattle.model.proofs.Accepted.{HelperOk};
-ghost use Rattle.tables.specs.Decode.{rights_of, Shaped};
-ghost use Rattle.tables.specs.Contract.{state_in, before, Leaves, Usable, Changes, Answers};
+ghost use Rattle.tables.specs.Decode.{rights_of, Shaped, state_of, Holds};
+ghost use Rattle.tables.specs.Contract.{Changes, Answers, Ready, memory_of};
 ghost use Rattle.helpers.specs.Helper.{every_class};
 
 use layout::answer::Answer;
@@ -34,8 +34,8 @@ fn may_enter_every(bytes: &Bytes, kind: u64) -> bool
 // Whether threads of a kind may enter the area of each entry on the stack of thread t. Where they may enter every
 // class, no entry is looked at.
 fn may_enter_all(words: &Words, bytes: &Bytes, t: usize, kind: u64) -> bool
-    requires { Usable words bytes × (t < 16) × (0 < kind) × (kind ≤ 3) }
-    ensures { result ≡ may_enter_all (before words bytes).rights kind (stack_at (before words bytes) t) }
+    requires { Ready words.now bytes.now × (t < 16) × (0 < kind) × (kind ≤ 3) }
+    ensures { result ≡ may_enter_all (state_of words.now bytes.now).rights kind (stack_at (state_of words.now bytes.now) t) }
 {
     if may_enter_every(bytes, kind) {
         return true;
@@ -53,8 +53,8 @@ fn may_enter_all(words: &Words, bytes: &Bytes, t: usize, kind: u64) -> bool
 }
 
 fn check_helper(words: &Words, bytes: &Bytes, t: u64, kind: u64, helper: u64) -> u64
-    requires { Usable words bytes }
-    ensures { result ≡ helper_rest (before words bytes) t kind helper }
+    requires { Ready words.now bytes.now }
+    ensures { result ≡ helper_rest (state_of words.now bytes.now) t kind helper }
 {
     let refusal = callers::check_thread(words, bytes, t);
     if refusal != 0 {
@@ -74,8 +74,8 @@ fn check_helper(words: &Words, bytes: &Bytes, t: u64, kind: u64, helper: u64) ->
 
 // The count of an area, if it is a scope, rises by 1.
 fn raise_count(words: &mut Words, bytes: &Bytes, area: usize)
-    requires { Shaped words.old bytes.now × (area < 64) × ((area_at (state_in words bytes) area).count < 1024) }
-    ensures { Leaves words bytes (raised_area (before words bytes) area) }
+    requires { Shaped words.old bytes.now × (area < 64) × ((area_at (state_of words.old bytes.now) area).count < 1024) }
+    ensures { Holds words.new bytes.now (raised_area (state_of words.old bytes.now) area) }
 {
     if area < 2 {
         return;
@@ -86,8 +86,8 @@ fn raise_count(words: &mut Words, bytes: &Bytes, area: usize)
 
 // The count of each scope on the stack of thread t rises by 1 for each of its entries.
 fn raise_counts(words: &mut Words, bytes: &Bytes, t: usize)
-    requires { Usable words bytes × (t < 16) }
-    ensures { Leaves words bytes (raised (before words bytes) (stack_at (before words bytes) t)) }
+    requires { Ready words.old bytes.now × (t < 16) }
+    ensures { Holds words.new bytes.now (raised (state_of words.old bytes.now) (stack_at (state_of words.old bytes.now) t)) }
 {
     let len = held_threads::thread_at(words, t).len as usize;
     let mut i = 0; // no count is raised yet
@@ -102,8 +102,8 @@ fn raise_counts(words: &mut Words, bytes: &Bytes, t: usize)
 
 // What an accepted call does: the helper receives the stack of thread t.
 fn apply_helper(words: &mut Words, bytes: &mut Bytes, t: usize, kind: u64, helper: usize)
-    requires { Usable words bytes × HelperOk (state_in words bytes) t kind helper }
-    ensures { Leaves words bytes (helper_state (before words bytes) t kind helper) }
+    requires { Ready words.old bytes.old × HelperOk (state_of words.old bytes.old) t kind helper }
+    ensures { Holds words.new bytes.new (helper_state (state_of words.old bytes.old) t kind helper) }
 {
     raise_counts(words, bytes, t);
     let len = held_threads::thread_at(words, t).len;
@@ -119,8 +119,11 @@ pub fn start_helper_on(
     kind: u64,
     helper: u64,
 ) -> Answer
-    requires { Usable words bytes }
-    ensures { Changes result words bytes (helper_change (before words bytes) t kind helper) }
+    requires { Ready words.old bytes.old }
+    ensures {
+        Changes result (helper_change (state_of words.old bytes.old) t kind helper)
+        words.old bytes.old words.new bytes.new
+    }
 {
     let status = check_helper(words, bytes, t, kind, helper);
     if status == 0 {
@@ -140,8 +143,12 @@ pub fn start_helper(
     kind: u64,
     helper: u64,
 ) -> Answer
-    requires { Usable words bytes }
-    ensures { Answers result words bytes permanent scratch map written (calls.start_helper t kind helper) }
+    requires { Ready words.old bytes.old }
+    ensures {
+        Answers result (calls.start_helper t kind helper)
+        words.old bytes.old (memory_of permanent.now scratch.now map.now written.now)
+        words.new bytes.new (memory_of permanent.now scratch.now map.now written.now)
+    }
 {
     let fit = callers::lengths_fit(words, bytes, permanent, scratch, map, written);
     if !fit {

@@ -5,8 +5,9 @@
 
 ghost use Rattle.std.specs.Prelude.{◌≡◌};
 ghost use Rattle.model.specs.Calls as calls;
-ghost use Rattle.tables.specs.Contract.{before, supplied, Usable, Answers};
+ghost use Rattle.tables.specs.Contract.{Answers, Ready, memory_of};
 ghost use Rattle.views.specs.PlacedView.{view_place_of, PlaceAnswers};
+ghost use Rattle.tables.specs.Decode.{state_of};
 
 use layout::answer::Answer;
 use tables::{Bytes, Words};
@@ -25,8 +26,12 @@ pub extern "C" fn scopes_allocate(
     slots: u64,
     data_words: u64,
 ) -> Answer
-    requires { Usable words bytes }
-    ensures { Answers result words bytes permanent scratch map written (calls.allocate t slots data_words) }
+    requires { Ready words.old bytes.now }
+    ensures {
+        Answers result (calls.allocate t slots data_words)
+        words.old bytes.now (memory_of permanent.old scratch.old map.old written.old)
+        words.new bytes.now (memory_of permanent.new scratch.new map.new written.new)
+    }
 {
     allocation::allocate(
         words, bytes, permanent, scratch, map, written, t, slots, data_words,
@@ -47,8 +52,12 @@ pub extern "C" fn scopes_store(
     slot: u64,
     target: u64,
 ) -> Answer
-    requires { Usable words bytes }
-    ensures { Answers result words bytes permanent scratch map written (calls.store t object slot target) }
+    requires { Ready words.now bytes.now }
+    ensures {
+        Answers result (calls.store t object slot target)
+        words.now bytes.now (memory_of permanent.old scratch.old map.now written.now)
+        words.now bytes.now (memory_of permanent.new scratch.new map.now written.now)
+    }
 {
     references::store(
         words, bytes, permanent, scratch, map, written, t, object, slot, target,
@@ -68,8 +77,12 @@ pub extern "C" fn scopes_load<'a>(
     object: u64,
     slot: u64,
 ) -> Answer
-    requires { Usable words bytes }
-    ensures { Answers result words bytes permanent scratch map written (calls.load t object slot) }
+    requires { Ready words.now bytes.now }
+    ensures {
+        Answers result (calls.load t object slot)
+        words.now bytes.now (memory_of permanent.now scratch.now map.now written.now)
+        words.now bytes.now (memory_of permanent.now scratch.now map.now written.now)
+    }
 {
     references::load(
         words, bytes, permanent, scratch, map, written, t, object, slot,
@@ -90,8 +103,12 @@ pub extern "C" fn scopes_write(
     index: u64,
     word: u64,
 ) -> Answer
-    requires { Usable words bytes }
-    ensures { Answers result words bytes permanent scratch map written (calls.write t object index word) }
+    requires { Ready words.now bytes.now }
+    ensures {
+        Answers result (calls.write t object index word)
+        words.now bytes.now (memory_of permanent.old scratch.old map.now written.old)
+        words.now bytes.now (memory_of permanent.new scratch.new map.now written.new)
+    }
 {
     data::write(
         words, bytes, permanent, scratch, map, written, t, object, index, word,
@@ -111,8 +128,12 @@ pub extern "C" fn scopes_read<'a>(
     object: u64,
     index: u64,
 ) -> Answer
-    requires { Usable words bytes }
-    ensures { Answers result words bytes permanent scratch map written (calls.read t object index) }
+    requires { Ready words.now bytes.now }
+    ensures {
+        Answers result (calls.read t object index)
+        words.now bytes.now (memory_of permanent.now scratch.now map.now written.now)
+        words.now bytes.now (memory_of permanent.now scratch.now map.now written.now)
+    }
 {
     data::read(
         words, bytes, permanent, scratch, map, written, t, object, index,
@@ -131,8 +152,12 @@ pub extern "C" fn scopes_view_status<'a>(
     t: u64,
     object: u64,
 ) -> Answer
-    requires { Usable words bytes }
-    ensures { Answers result words bytes permanent scratch map written (calls.view_status t object) }
+    requires { Ready words.now bytes.now }
+    ensures {
+        Answers result (calls.view_status t object)
+        words.now bytes.now (memory_of permanent.now scratch.now map.now written.now)
+        words.now bytes.now (memory_of permanent.now scratch.now map.now written.now)
+    }
 {
     views::view_status(words, bytes, permanent, scratch, map, written, t, object)
 }
@@ -149,9 +174,9 @@ pub extern "C" fn scopes_view_place<'a>(
     t: u64,
     object: u64,
 ) -> ViewPlace
-    requires { Usable words bytes }
-    ensures place { result ≡ view_place_of (before words bytes) (supplied permanent scratch map written) t object }
-    ensures answers { PlaceAnswers result words bytes permanent scratch map written t object }
+    requires { Ready words.now bytes.now }
+    ensures place { result ≡ view_place_of (state_of words.now bytes.now) (memory_of permanent.now scratch.now map.now written.now) t object }
+    ensures answers { PlaceAnswers result words.now bytes.now (memory_of permanent.now scratch.now map.now written.now) t object }
 {
     views::view_place(words, bytes, permanent, scratch, map, written, t, object)
 }

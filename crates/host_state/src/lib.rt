@@ -9,7 +9,7 @@
 #![tactic(auto)]
 
 ghost use Rattle.model.specs.Calls as calls;
-ghost use Rattle.tables.specs.Contract.{supplied, Usable, Answers};
+ghost use Rattle.tables.specs.Contract.{Answers, Ready, memory_of};
 ghost use Rattle.setup.specs.First.{Begun};
 
 use layout::answer::Answer;
@@ -26,7 +26,7 @@ pub extern "C" fn scopes_set_up(
     h: u64,
     i: u64,
 ) -> SetUp
-    ensures { Begun result.status result.words result.bytes h i (supplied permanent scratch map written) }
+    ensures { Begun result.status result.words result.bytes h i (memory_of permanent.now scratch.now map.now written.now) }
 {
     setup::set_up(permanent, scratch, map, written, h, i)
 }
@@ -43,7 +43,7 @@ pub extern "C" fn scopes_set_up_in_place(
     h: u64,
     i: u64,
 ) -> u64
-    ensures { Begun result words.new bytes.new h i (supplied permanent scratch map written) }
+    ensures { Begun result words.new bytes.new h i (memory_of permanent.now scratch.now map.now written.now) }
 {
     setup::set_up_in_place(words, bytes, permanent, scratch, map, written, h, i)
 }
@@ -60,8 +60,12 @@ pub extern "C" fn scopes_start(
     t: u64,
     kind: u64,
 ) -> Answer
-    requires { Usable words bytes }
-    ensures { Answers result words bytes permanent scratch map written (calls.start t kind) }
+    requires { Ready words.old bytes.now }
+    ensures {
+        Answers result (calls.start t kind)
+        words.old bytes.now (memory_of permanent.now scratch.now map.now written.now)
+        words.new bytes.now (memory_of permanent.now scratch.now map.now written.now)
+    }
 {
     threads::start(words, bytes, permanent, scratch, map, written, t, kind)
 }
@@ -79,8 +83,12 @@ pub extern "C" fn scopes_start_helper(
     kind: u64,
     helper: u64,
 ) -> Answer
-    requires { Usable words bytes }
-    ensures { Answers result words bytes permanent scratch map written (calls.start_helper t kind helper) }
+    requires { Ready words.old bytes.old }
+    ensures {
+        Answers result (calls.start_helper t kind helper)
+        words.old bytes.old (memory_of permanent.now scratch.now map.now written.now)
+        words.new bytes.new (memory_of permanent.now scratch.now map.now written.now)
+    }
 {
     helpers::start_helper(
         words, bytes, permanent, scratch, map, written, t, kind, helper,
@@ -98,8 +106,12 @@ pub extern "C" fn scopes_end(
     written: &[u64],
     t: u64,
 ) -> Answer
-    requires { Usable words bytes }
-    ensures { Answers result words bytes permanent scratch map written (calls.end t) }
+    requires { Ready words.old bytes.now }
+    ensures {
+        Answers result (calls.end t)
+        words.old bytes.now (memory_of permanent.now scratch.now map.now written.now)
+        words.new bytes.now (memory_of permanent.now scratch.now map.now written.now)
+    }
 {
     threads::end(words, bytes, permanent, scratch, map, written, t)
 }
@@ -117,8 +129,12 @@ pub extern "C" fn scopes_make(
     area: u64,
     size: u64,
 ) -> Answer
-    requires { Usable words bytes }
-    ensures { Answers result words bytes permanent scratch map written (calls.make t area size) }
+    requires { Ready words.old bytes.now }
+    ensures {
+        Answers result (calls.make t area size)
+        words.old bytes.now (memory_of permanent.now scratch.now map.now written.now)
+        words.new bytes.now (memory_of permanent.now scratch.now map.now written.now)
+    }
 {
     areas::make::make(
         words, bytes, permanent, scratch, map, written, t, area, size,
@@ -137,8 +153,12 @@ pub extern "C" fn scopes_remove(
     t: u64,
     q: u64,
 ) -> Answer
-    requires { Usable words bytes }
-    ensures { Answers result words bytes permanent scratch map written (calls.remove t q) }
+    requires { Ready words.old bytes.now }
+    ensures {
+        Answers result (calls.remove t q)
+        words.old bytes.now (memory_of permanent.now scratch.now map.now written.now)
+        words.new bytes.now (memory_of permanent.now scratch.now map.now written.now)
+    }
 {
     removal::remove(words, bytes, permanent, scratch, map, written, t, q)
 }
@@ -155,8 +175,12 @@ pub extern "C" fn scopes_enter(
     t: u64,
     area: u64,
 ) -> Answer
-    requires { Usable words bytes }
-    ensures { Answers result words bytes permanent scratch map written (calls.enter t area) }
+    requires { Ready words.old bytes.old }
+    ensures {
+        Answers result (calls.enter t area)
+        words.old bytes.old (memory_of permanent.now scratch.now map.now written.now)
+        words.new bytes.new (memory_of permanent.now scratch.now map.now written.now)
+    }
 {
     entry::enter(words, bytes, permanent, scratch, map, written, t, area)
 }
@@ -172,8 +196,12 @@ pub extern "C" fn scopes_exit(
     written: &[u64],
     t: u64,
 ) -> Answer
-    requires { Usable words bytes }
-    ensures { Answers result words bytes permanent scratch map written (calls.exit t) }
+    requires { Ready words.old bytes.now }
+    ensures {
+        Answers result (calls.exit t)
+        words.old bytes.now (memory_of permanent.now scratch.now map.now written.now)
+        words.new bytes.now (memory_of permanent.now scratch.now map.now written.now)
+    }
 {
     exit::exit(words, bytes, permanent, scratch, map, written, t)
 }

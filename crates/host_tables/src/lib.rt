@@ -3,7 +3,7 @@
 #![tactic(auto)]
 
 ghost use Rattle.model.specs.Calls.{load_rights};
-ghost use Rattle.tables.specs.Contract.{Usable, AnswersAlone};
+ghost use Rattle.tables.specs.Contract.{AnswersAlone, Ready};
 
 use layout::answer::Answer;
 use tables::{Bytes, Words};
@@ -11,8 +11,8 @@ use tables::{Bytes, Words};
 // The rights table in force becomes the 36 digits of a text.
 #[unsafe(no_mangle)]
 pub extern "C" fn scopes_load_rights(words: &Words, bytes: &mut Bytes, text: &[u8]) -> Answer
-    requires { Usable words bytes }
-    ensures { AnswersAlone result words bytes (load_rights text.now) }
+    requires { Ready words.now bytes.old }
+    ensures { AnswersAlone result (load_rights text.now) words.now bytes.old words.now bytes.new }
 {
     loading::load_rights(words, bytes, text)
 }

@@ -33,8 +33,8 @@ pub fn put_object(
     slots: u64,
     data_words: u64,
 )
-    requires { (at + 1 + slots + data_words ≤ length (store_in permanent scratch area)) × (at + 1 + slots + data_words ≤ 16384) }
-    ensures { Stores permanent scratch area (λ l. object_words l at slots data_words) }
+    requires { (at + 1 + slots + data_words ≤ length (store_in permanent.old scratch.old area)) × (at + 1 + slots + data_words ≤ 16384) }
+    ensures { Stores permanent.old scratch.old permanent.new scratch.new area (λ l. object_words l at slots data_words) }
 {
     if area < 2 {
         write_object(permanent, at, slots, data_words);

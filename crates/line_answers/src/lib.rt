@@ -3,7 +3,7 @@
 
 ghost use Rattle.std.specs.Prelude.{◌≡◌, ◌+◌, ◌≤◌, length};
 ghost use Rattle.tables.specs.Contract.{Ready};
-ghost use Rattle.line_answers.specs.Clauses.{LineReplied, LineEnded};
+ghost use Rattle.line_answers.specs.Answered.{core, LineAnswered, Ended};
 
 use layout::answer::Answer;
 use lines::frame::Parsed;
@@ -22,7 +22,12 @@ fn answer_line(
     len: usize,
 ) -> Answer
     requires { (Ready words.old bytes.old) × (length line.now ≡ 40) }
-    ensures { LineReplied words bytes permanent scratch map written line len result }
+    ensures {
+        LineAnswered
+        (core words.old bytes.old permanent.old scratch.old map.old written.old)
+        (core words.new bytes.new permanent.new scratch.new map.new written.new)
+        line.now len result
+    }
 {
     let Parsed::Frame(f) = lines::frame::parse_line(line, len) else {
         return Answer {
@@ -50,7 +55,12 @@ pub fn end_line(
     at: usize,
 )
     requires { (Ready words.old bytes.old) × (length line.now ≡ 40) × (at + 19 ≤ length output.old) }
-    ensures { LineEnded words bytes permanent scratch map written line len output at }
+    ensures {
+        Ended
+        (core words.old bytes.old permanent.old scratch.old map.old written.old)
+        (core words.new bytes.new permanent.new scratch.new map.new written.new)
+        line.now len output.old at output.new
+    }
 {
     let a = answer_line(words, bytes, permanent, scratch, map, written, line, len);
     lines::answer::write_answer(output, at, a.status, a.value);

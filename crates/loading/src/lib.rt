@@ -6,7 +6,8 @@ ghost use Rattle.std.specs.Prelude.{◌≡◌, length};
 ghost use Rattle.rights.specs.Rights.{table_size, only_binary, allocators_use, is_table};
 ghost use Rattle.model.specs.Configuration.{any_started, load_rights_status};
 ghost use Rattle.model.specs.Calls.{load_rights};
-ghost use Rattle.tables.specs.Contract.{before, Usable, AnswersAlone};
+ghost use Rattle.tables.specs.Contract.{AnswersAlone, Ready};
+ghost use Rattle.tables.specs.Decode.{state_of};
 
 use layout::answer::Answer;
 use tables::{Bytes, Words};
@@ -56,7 +57,7 @@ fn is_table(text: &[u8]) -> bool
 // ---- when
 
 fn any_started(words: &Words, bytes: &Bytes) -> bool
-    ensures { result ≡ any_started (before words bytes) }
+    ensures { result ≡ any_started (state_of words.now bytes.now) }
 {
     let mut some = false;
     let mut t = 0;
@@ -69,7 +70,7 @@ fn any_started(words: &Words, bytes: &Bytes) -> bool
 
 // 23, then 24.
 fn check_load(words: &Words, bytes: &Bytes, text: &[u8]) -> u64
-    ensures { result ≡ load_rights_status (before words bytes) text.now }
+    ensures { result ≡ load_rights_status (state_of words.now bytes.now) text.now }
 {
     if !is_table(text) {
         return 23;
@@ -83,8 +84,8 @@ fn check_load(words: &Words, bytes: &Bytes, text: &[u8]) -> u64
 // ---- the load
 
 pub fn load_rights(words: &Words, bytes: &mut Bytes, text: &[u8]) -> Answer
-    requires { Usable words bytes }
-    ensures { AnswersAlone result words bytes (load_rights text.now) }
+    requires { Ready words.now bytes.old }
+    ensures { AnswersAlone result (load_rights text.now) words.now bytes.old words.now bytes.new }
 {
     let refusal = check_load(words, bytes, text);
     if refusal == 0 {

@@ -2,7 +2,7 @@
 #![tactic(auto)]
 
 ghost use Rattle.model.specs.Ops.{call_of};
-ghost use Rattle.tables.specs.Contract.{Usable, Answers};
+ghost use Rattle.tables.specs.Contract.{Answers, Ready, memory_of};
 
 use layout::answer::Answer;
 use model::{MemoryOp, Op};
@@ -22,8 +22,12 @@ pub fn carry_memory(
     q: u64,
     r: u64,
 ) -> Answer
-    requires { Usable words bytes }
-    ensures { Answers result words bytes permanent scratch map written (call_of (Op.Memory op) t p q r) }
+    requires { Ready words.old bytes.now }
+    ensures {
+        Answers result (call_of (Op.Memory op) t p q r)
+        words.old bytes.now (memory_of permanent.old scratch.old map.old written.old)
+        words.new bytes.now (memory_of permanent.new scratch.new map.new written.new)
+    }
 {
     match op {
         MemoryOp::Allocate => allocation::allocate(

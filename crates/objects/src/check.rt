@@ -25,8 +25,8 @@ pub fn check_object<'a>(
     t: u64,
     p: u64,
 ) -> Checked
-    requires { Admissible words bytes permanent scratch map t }
-    ensures { Checks result words bytes permanent scratch map p (λ s m. use_rest s m t p 0) }
+    requires { Admissible words.now bytes.now permanent.now scratch.now map.now t }
+    ensures { Checks result words.now bytes.now permanent.now scratch.now map.now p (λ s m. use_rest s m t p 0) }
 {
     let Found::At(o) = find::lookup(words, bytes, permanent, scratch, map, p) else {
         return Checked::Refused(13);

@@ -52,9 +52,9 @@ pub fn lookup<'a>(
     map: &[u64],
     handle: u64,
 ) -> Found
-    requires { Fitting words bytes permanent scratch map }
-    ensures found { Finds result words bytes permanent scratch map handle }
-    ensures number { Numbers result words bytes permanent scratch map handle }
+    requires { Fitting words.now bytes.now permanent.now scratch.now map.now }
+    ensures found { Finds result words.now bytes.now permanent.now scratch.now map.now handle }
+    ensures number { Numbers result words.now bytes.now permanent.now scratch.now map.now handle }
 {
     let area = handle::area(handle);
     let offset = handle::offset(handle);

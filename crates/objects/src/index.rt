@@ -63,8 +63,8 @@ pub fn check_index<'a>(
     part: Part,
     q: u64,
 ) -> Indexed
-    requires { Admissible words bytes permanent scratch map t }
-    ensures { Indexes result words bytes permanent scratch map p part q (λ s m. index_rest part s m t p q 0) }
+    requires { Admissible words.now bytes.now permanent.now scratch.now map.now t }
+    ensures { Indexes result words.now bytes.now permanent.now scratch.now map.now p part q (λ s m. index_rest part s m t p q 0) }
 {
     match check::check_object(words, bytes, permanent, scratch, map, t, p) {
         Checked::Refused(n) => Indexed::Refused(n),

@@ -5,8 +5,7 @@ ghost use Rattle.std.specs.Prelude.{◌≡◌, ◌<◌, ◌≤◌};
 ghost use Rattle.layout.specs.Display.{extended_row};
 ghost use Rattle.model.specs.State.{area_at, thread_at, stack_at, innermost};
 ghost use Rattle.model.specs.Scopes.{last_generation, opened, enter_state, enter_value};
-ghost use Rattle.tables.specs.Decode.{display_row, put_row, Shaped};
-ghost use Rattle.tables.specs.Contract.{state_in, before, Leaves};
+ghost use Rattle.tables.specs.Decode.{display_row, put_row, Shaped, state_of, Holds};
 ghost use Rattle.opening.specs.Entered.{Enterable, pushed_state};
 
 use layout::display::Depth;
@@ -46,8 +45,8 @@ fn put_display(bytes: &mut Bytes, q: usize, p: usize, depth: Depth)
 // Area q goes on top of a stack, and beside it the innermost scope as of that entry. The length is written
 // before the entry: the compiler then sees that the kind is as it was read.
 pub fn push(words: &mut Words, bytes: &mut Bytes, t: usize, q: u8, inner: u8)
-    requires { Shaped words.old bytes.old × (t < 16) × ((thread_at (state_in words bytes) t).len < 32) }
-    ensures { Leaves words bytes (pushed_state (before words bytes) t q inner) }
+    requires { Shaped words.old bytes.old × (t < 16) × ((thread_at (state_of words.old bytes.old) t).len < 32) }
+    ensures { Holds words.new bytes.new (pushed_state (state_of words.old bytes.old) t q inner) }
 {
     let h = held_threads::thread_at(words, t);
     let len = h.len + 1;
@@ -61,9 +60,9 @@ pub fn push(words: &mut Words, bytes: &mut Bytes, t: usize, q: u8, inner: u8)
 // Scope q is open and gets one entry more; its generation. The stack is written first, here and below: its length
 // is then the one that was read for the checks.
 fn reenter(words: &mut Words, bytes: &mut Bytes, t: usize, q: usize) -> u64
-    requires { Shaped words.old bytes.old × Enterable (state_in words bytes) t q × (2 ≤ q) × (0 < (area_at (state_in words bytes) q).count) }
-    ensures value { result ≡ enter_value (before words bytes) q }
-    ensures state { Leaves words bytes (enter_state (before words bytes) t q) }
+    requires { Shaped words.old bytes.old × Enterable (state_of words.old bytes.old) t q × (2 ≤ q) × (0 < (area_at (state_of words.old bytes.old) q).count) }
+    ensures value { result ≡ enter_value (state_of words.old bytes.old) q }
+    ensures state { Holds words.new bytes.new (enter_state (state_of words.old bytes.old) t q) }
 {
     push(words, bytes, t, q as u8, q as u8);
     let x = held_areas::area_at(words, q);
@@ -73,10 +72,10 @@ fn reenter(words: &mut Words, bytes: &mut Bytes, t: usize, q: usize) -> u64
 
 // Scope q opens below p, the innermost scope; its generation.
 fn open(words: &mut Words, bytes: &mut Bytes, t: usize, q: usize, p: usize) -> u64
-    requires scope { Shaped words.old bytes.old × Enterable (state_in words bytes) t q × (2 ≤ q) × ((area_at (state_in words bytes) q).count ≤ 0) }
-    requires parent { p ≡ innermost (stack_at (state_in words bytes) t) }
-    ensures value { result ≡ enter_value (before words bytes) q }
-    ensures state { Leaves words bytes (enter_state (before words bytes) t q) }
+    requires scope { Shaped words.old bytes.old × Enterable (state_of words.old bytes.old) t q × (2 ≤ q) × ((area_at (state_of words.old bytes.old) q).count ≤ 0) }
+    requires parent { p ≡ innermost (stack_at (state_of words.old bytes.old) t) }
+    ensures value { result ≡ enter_value (state_of words.old bytes.old) q }
+    ensures state { Holds words.new bytes.new (enter_state (state_of words.old bytes.old) t q) }
 {
     push(words, bytes, t, q as u8, q as u8);
     let depth = Depth(held_areas::area_at(words, p).depth as usize);
@@ -88,10 +87,10 @@ fn open(words: &mut Words, bytes: &mut Bytes, t: usize, q: usize, p: usize) -> u
 
 // Either of them.
 pub fn apply_enter(words: &mut Words, bytes: &mut Bytes, t: usize, q: usize, inner: u8) -> u64
-    requires scope { Shaped words.old bytes.old × Enterable (state_in words bytes) t q × (2 ≤ q) }
-    requires parent { inner ≡ innermost (stack_at (state_in words bytes) t) }
-    ensures value { result ≡ enter_value (before words bytes) q }
-    ensures state { Leaves words bytes (enter_state (before words bytes) t q) }
+    requires scope { Shaped words.old bytes.old × Enterable (state_of words.old bytes.old) t q × (2 ≤ q) }
+    requires parent { inner ≡ innermost (stack_at (state_of words.old bytes.old) t) }
+    ensures value { result ≡ enter_value (state_of words.old bytes.old) q }
+    ensures state { Holds words.new bytes.new (enter_state (state_of words.old bytes.old) t q) }
 {
     if 0 < held_areas::area_at(words, q).count {
         return reenter(words, bytes, t, q);

@@ -2,7 +2,7 @@
 #![tactic(auto)]
 
 ghost use Rattle.model.specs.Ops.{call_of};
-ghost use Rattle.tables.specs.Contract.{Usable, Answers};
+ghost use Rattle.tables.specs.Contract.{Answers, Ready, memory_of};
 
 use layout::answer::Answer;
 use model::{Op, QuestionOp};
@@ -22,8 +22,12 @@ pub fn carry_question<'a>(
     q: u64,
     r: u64,
 ) -> Answer
-    requires { Usable words bytes }
-    ensures { Answers result words bytes permanent scratch map written (call_of (Op.Question op) t p q r) }
+    requires { Ready words.now bytes.now }
+    ensures {
+        Answers result (call_of (Op.Question op) t p q r)
+        words.now bytes.now (memory_of permanent.now scratch.now map.now written.now)
+        words.now bytes.now (memory_of permanent.now scratch.now map.now written.now)
+    }
 {
     match op {
         QuestionOp::Load => references::load(

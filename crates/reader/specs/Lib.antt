@@ -2,5 +2,4 @@
 pub mod Feeding
 pub mod Held
 pub mod HeldLaws
-pub mod Clauses
 pub mod Program

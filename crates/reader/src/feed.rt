@@ -2,7 +2,8 @@
 // the next chunk.
 ghost use Rattle.std.specs.Prelude.{◌≡◌, [], ◌∷◌, ◌+◌, ◌*◌, ◌≤◌, length};
 ghost use Rattle.tables.specs.Contract.{Ready};
-ghost use Rattle.reader.specs.Clauses.{BytesFed, InputEnded};
+ghost use Rattle.line_answers.specs.Answered.{core};
+ghost use Rattle.reader.specs.Held.{Feeds, Finishes, held};
 
 use lines::line::Text;
 use tables::{Bytes, Words};
@@ -29,7 +30,12 @@ fn feed_byte(
     at: usize,
 ) -> Fed
     requires { (Ready words.old bytes.old) × (length line.old ≡ 40) × (at + 19 ≤ length output.old) }
-    ensures { BytesFed words bytes permanent scratch map written line len output at (b ∷ []) result }
+    ensures {
+        Feeds
+        (held (core words.old bytes.old permanent.old scratch.old map.old written.old) line.old len output.old at)
+        (held (core words.new bytes.new permanent.new scratch.new map.new written.new) line.new result.len output.new result.written)
+        (b ∷ [])
+    }
 {
     if b == b'\n' {
         line_answers::end_line(
@@ -60,7 +66,12 @@ pub fn feed(
     output: &mut [u8],
 ) -> Fed
     requires { (Ready words.old bytes.old) × (length line.old ≡ 40) × (19 * length input.now ≤ length output.old) }
-    ensures { BytesFed words bytes permanent scratch map written line len output 0 input.now result }
+    ensures {
+        Feeds
+        (held (core words.old bytes.old permanent.old scratch.old map.old written.old) line.old len output.old 0)
+        (held (core words.new bytes.new permanent.new scratch.new map.new written.new) line.new result.len output.new result.written)
+        input.now
+    }
 {
     let mut n = len;
     let mut at = 0;
@@ -92,7 +103,11 @@ pub fn finish(
     output: &mut [u8],
 ) -> usize
     requires { (Ready words.old bytes.old) × (length line.now ≡ 40) × (19 ≤ length output.old) }
-    ensures { InputEnded words bytes permanent scratch map written line len output result }
+    ensures {
+        Finishes
+        (held (core words.old bytes.old permanent.old scratch.old map.old written.old) line.now len output.old 0)
+        (held (core words.new bytes.new permanent.new scratch.new map.new written.new) line.now 0 output.new result)
+    }
 {
     if len == 0 {
         return 0;

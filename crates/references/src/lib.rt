@@ -4,9 +4,10 @@
 ghost use Rattle.std.specs.Prelude.{◌≡◌, ◌<◌};
 ghost use Rattle.model.specs.References.{may_refer, reference_rest, store_rest};
 ghost use Rattle.model.specs.Calls as calls;
-ghost use Rattle.tables.specs.Contract.{before, Usable, Answers};
+ghost use Rattle.tables.specs.Contract.{Answers, Ready, memory_of};
 ghost use Rattle.objects.specs.declared.index.Part.TheVariants.{Slots};
 ghost use Rattle.objects.specs.Resolving.{Admissible, Refuses, Indexes};
+ghost use Rattle.tables.specs.Decode.{state_of};
 
 use layout::answer::Answer;
 use layout::display::Depth;
@@ -18,8 +19,8 @@ use tables::{Bytes, Words};
 // The assignment rule, for the areas of an object and of a target: one look into the display of the
 // object's area (source 004, Algorithm 9).
 fn may_refer(words: &Words, bytes: &Bytes, object: u64, target: u64) -> bool
-    requires { Usable words bytes × (object < 64) × (target < 64) }
-    ensures { result ≡ may_refer (before words bytes) object target }
+    requires { Ready words.now bytes.now × (object < 64) × (target < 64) }
+    ensures { result ≡ may_refer (state_of words.now bytes.now) object target }
 {
     if target < 2 {
         return true;
@@ -42,8 +43,8 @@ fn check_reference<'a>(
     t: u64,
     x: u64,
 ) -> u64
-    requires { Admissible words bytes permanent scratch map t }
-    ensures { Refuses result words bytes permanent scratch map (λ s m. reference_rest s m t x 0) }
+    requires { Admissible words.now bytes.now permanent.now scratch.now map.now t }
+    ensures { Refuses result words.now bytes.now permanent.now scratch.now map.now (λ s m. reference_rest s m t x 0) }
 {
     if x == 0 {
         return 0;
@@ -71,8 +72,8 @@ fn check_store<'a>(
     q: u64,
     target: u64,
 ) -> Indexed
-    requires { Admissible words bytes permanent scratch map t }
-    ensures { Indexes result words bytes permanent scratch map p Slots q (λ s m. store_rest s m t p q target) }
+    requires { Admissible words.now bytes.now permanent.now scratch.now map.now t }
+    ensures { Indexes result words.now bytes.now permanent.now scratch.now map.now p Slots q (λ s m. store_rest s m t p q target) }
 {
     match objects::check_index(words, bytes, permanent, scratch, map, t, p, Part::Slots, q) {
         Indexed::Refused(n) => Indexed::Refused(n),
@@ -103,8 +104,12 @@ pub fn store(
     q: u64,
     target: u64,
 ) -> Answer
-    requires { Usable words bytes }
-    ensures { Answers result words bytes permanent scratch map written (calls.store t p q target) }
+    requires { Ready words.now bytes.now }
+    ensures {
+        Answers result (calls.store t p q target)
+        words.now bytes.now (memory_of permanent.old scratch.old map.now written.now)
+        words.now bytes.now (memory_of permanent.new scratch.new map.now written.now)
+    }
 {
     let refusal = callers::check_caller(words, bytes, permanent, scratch, map, written, t);
     if refusal != 0 {
@@ -139,8 +144,12 @@ pub fn load<'a>(
     p: u64,
     q: u64,
 ) -> Answer
-    requires { Usable words bytes }
-    ensures { Answers result words bytes permanent scratch map written (calls.load t p q) }
+    requires { Ready words.now bytes.now }
+    ensures {
+        Answers result (calls.load t p q)
+        words.now bytes.now (memory_of permanent.now scratch.now map.now written.now)
+        words.now bytes.now (memory_of permanent.now scratch.now map.now written.now)
+    }
 {
     let refusal = callers::check_caller(words, bytes, permanent, scratch, map, written, t);
     if refusal != 0 {

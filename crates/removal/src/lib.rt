@@ -5,14 +5,15 @@ ghost use Rattle.std.specs.Prelude.{◌≡◌};
 ghost use Rattle.model.specs.Removal.{remove_rest, remove_state, remove_change};
 ghost use Rattle.model.specs.Calls as calls;
 ghost use Rattle.model.proofs.Accepted.{RemoveOk};
-ghost use Rattle.tables.specs.Contract.{state_in, before, Leaves, Usable, Changes, Answers};
+ghost use Rattle.tables.specs.Contract.{Changes, Answers, Ready, memory_of};
+ghost use Rattle.tables.specs.Decode.{state_of, Holds};
 
 use layout::answer::Answer;
 use tables::{Bytes, Words};
 
 fn check_remove(words: &Words, bytes: &Bytes, t: u64, q: u64) -> u64
-    requires { Usable words bytes }
-    ensures { result ≡ remove_rest (before words bytes) t q }
+    requires { Ready words.now bytes.now }
+    ensures { result ≡ remove_rest (state_of words.now bytes.now) t q }
 {
     let refusal = callers::check_thread(words, bytes, t);
     if refusal != 0 {
@@ -38,8 +39,8 @@ fn check_remove(words: &Words, bytes: &Bytes, t: u64, q: u64) -> u64
 
 // Scope q has no words any more, and its blocks are free; its generation stays.
 fn apply_remove(words: &mut Words, bytes: &Bytes, t: u64, q: usize)
-    requires { Usable words bytes × RemoveOk (state_in words bytes) t q }
-    ensures { Leaves words bytes (remove_state (before words bytes) q) }
+    requires { Ready words.old bytes.now × RemoveOk (state_of words.old bytes.now) t q }
+    ensures { Holds words.new bytes.now (remove_state (state_of words.old bytes.now) q) }
 {
     let x = held_areas::area_at(words, q);
     held_areas::put_area(words, q, held_areas::placed(x, 0, 0));
@@ -52,8 +53,11 @@ fn apply_remove(words: &mut Words, bytes: &Bytes, t: u64, q: usize)
 
 // After refusal 1.
 pub fn remove_on(words: &mut Words, bytes: &Bytes, t: u64, q: u64) -> Answer
-    requires { Usable words bytes }
-    ensures { Changes result words bytes (remove_change (before words bytes) t q) }
+    requires { Ready words.old bytes.now }
+    ensures {
+        Changes result (remove_change (state_of words.old bytes.now) t q)
+        words.old bytes.now words.new bytes.now
+    }
 {
     let status = check_remove(words, bytes, t, q);
     if status == 0 {
@@ -72,8 +76,12 @@ pub fn remove(
     t: u64,
     q: u64,
 ) -> Answer
-    requires { Usable words bytes }
-    ensures { Answers result words bytes permanent scratch map written (calls.remove t q) }
+    requires { Ready words.old bytes.now }
+    ensures {
+        Answers result (calls.remove t q)
+        words.old bytes.now (memory_of permanent.now scratch.now map.now written.now)
+        words.new bytes.now (memory_of permanent.now scratch.now map.now written.now)
+    }
 {
     let fit = callers::lengths_fit(words, bytes, permanent, scratch, map, written);
     if !fit {

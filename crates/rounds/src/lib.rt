@@ -16,8 +16,9 @@
 ghost use Rattle.std.specs.Prelude.{◌≡◌, ◌*◌, ◌≤◌, ◌<◌, length, take};
 ghost use Rattle.io.specs.Counts.{IsPrefixLen};
 ghost use Rattle.tables.specs.Contract.{Ready};
-ghost use Rattle.reader.specs.Clauses.{BytesFed, InputEnded};
 ghost use Rattle.rounds.specs.Steps.{Read, Wrote};
+ghost use Rattle.line_answers.specs.Answered.{core};
+ghost use Rattle.reader.specs.Held.{Feeds, Finishes, held};
 
 use libc::{STDERR_FILENO, STDIN_FILENO, STDOUT_FILENO};
 use lines::line::Text;
@@ -90,7 +91,12 @@ pub fn answer_chunk(
 ) -> Fed
     requires lent { (Ready words.old bytes.old) × (length line.old ≡ 40) × (19 * length input.now ≤ length output.old) }
     requires counted { (IsPrefixLen n input.now) × (19 * n < steps.old) }
-    ensures fed { BytesFed words bytes permanent scratch map written line len output 0 (take n input.now) result }
+    ensures fed {
+        Feeds
+        (held (core words.old bytes.old permanent.old scratch.old map.old written.old) line.old len output.old 0)
+        (held (core words.new bytes.new permanent.new scratch.new map.new written.new) line.new result.len output.new result.written)
+        (take n input.now)
+    }
     ensures wrote { Wrote steps.old steps.new result.written }
 {
     let fed = reader::feed::feed(
@@ -123,7 +129,11 @@ pub fn answer_rest(
     steps: &mut usize,
 ) -> usize
     requires { (Ready words.old bytes.old) × (length line.now ≡ 40) × (19 ≤ length output.old) × (19 < steps.old) }
-    ensures ended { InputEnded words bytes permanent scratch map written line len output result }
+    ensures ended {
+        Finishes
+        (held (core words.old bytes.old permanent.old scratch.old map.old written.old) line.now len output.old 0)
+        (held (core words.new bytes.new permanent.new scratch.new map.new written.new) line.now 0 output.new result)
+    }
     ensures wrote { Wrote steps.old steps.new result }
 {
     let sent = reader::feed::finish(

@@ -2,7 +2,7 @@
 #![tactic(auto)]
 
 ghost use Rattle.model.specs.Ops.{call_of};
-ghost use Rattle.tables.specs.Contract.{Usable, Answers};
+ghost use Rattle.tables.specs.Contract.{Answers, Ready, memory_of};
 
 use layout::answer::Answer;
 use model::Op;
@@ -22,8 +22,12 @@ pub fn carry_out(
     q: u64,
     r: u64,
 ) -> Answer
-    requires { Usable words bytes }
-    ensures { Answers result words bytes permanent scratch map written (call_of op t p q r) }
+    requires { Ready words.old bytes.old }
+    ensures {
+        Answers result (call_of op t p q r)
+        words.old bytes.old (memory_of permanent.old scratch.old map.old written.old)
+        words.new bytes.new (memory_of permanent.new scratch.new map.new written.new)
+    }
 {
     match op {
         Op::State(o) => state_ops::carry_state(

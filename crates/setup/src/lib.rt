@@ -5,8 +5,8 @@
 ghost use Rattle.std.specs.Prelude.{◌≡◌};
 ghost use Rattle.model.specs.SetUp.{set_up_status, set_up_state, standing};
 ghost use Rattle.tables.specs.Decode.{Holds};
-ghost use Rattle.tables.specs.Contract.{supplied};
 ghost use Rattle.setup.specs.First.{first_words, first_bytes, Begun};
+ghost use Rattle.tables.specs.Contract.{memory_of};
 
 use model::{Area, Lengths};
 use tables::{BYTES, Bytes, WORDS, Words};
@@ -109,7 +109,7 @@ pub fn set_up_in_place(
     h: u64,
     i: u64,
 ) -> u64
-    ensures { Begun result words.new bytes.new h i (supplied permanent scratch map written) }
+    ensures { Begun result words.new bytes.new h i (memory_of permanent.now scratch.now map.now written.now) }
 {
     let n = Lengths {
         permanent: permanent.len() as u64,
@@ -132,7 +132,7 @@ pub fn set_up(
     h: u64,
     i: u64,
 ) -> SetUp
-    ensures { Begun result.status result.words result.bytes h i (supplied permanent scratch map written) }
+    ensures { Begun result.status result.words result.bytes h i (memory_of permanent.now scratch.now map.now written.now) }
 {
     let mut words = [0u64; WORDS];
     let mut bytes = [0u8; BYTES];

@@ -2,7 +2,7 @@
 #![tactic(auto)]
 
 ghost use Rattle.model.specs.Ops.{call_of};
-ghost use Rattle.tables.specs.Contract.{Usable, Answers};
+ghost use Rattle.tables.specs.Contract.{Answers, Ready, memory_of};
 
 use layout::answer::Answer;
 use model::{Op, StateOp};
@@ -22,8 +22,12 @@ pub fn carry_state(
     q: u64,
     r: u64,
 ) -> Answer
-    requires { Usable words bytes }
-    ensures { Answers result words bytes permanent scratch map written (call_of (Op.State op) t p q r) }
+    requires { Ready words.old bytes.old }
+    ensures {
+        Answers result (call_of (Op.State op) t p q r)
+        words.old bytes.old (memory_of permanent.now scratch.now map.now written.now)
+        words.new bytes.new (memory_of permanent.now scratch.now map.now written.now)
+    }
 {
     match op {
         StateOp::Start => threads::start(words, bytes, permanent, scratch, map, written, t, p),

@@ -9,7 +9,7 @@ use Rattle.bitmap.specs.Bitmap.{with_bit, cleared}
 use Rattle.bitmap.specs.Marks.{marked_run}
 use Rattle.model.specs.State.{is_scope, with_store}
 use Rattle.model.specs.Objects.{filled, object_words, object_bits}
-use Rattle.tables.specs.Contract.{Cell, Borrowed, memory_of}
+use Rattle.tables.specs.Contract.{memory_of}
 
 -- the bits before those of a store are no more than the permanent words
 pub pick_most : (b : Bool) (n : ℕ) → pick b n 0 ≤ n
@@ -22,13 +22,12 @@ pub record StoreWritten (p' s' p s : List ℕ) (a : ℕ) (l : List ℕ) : Type 0
   pub scratch_is : s' ≡ pick (is_scope a) l s
 
 -- the store that has an area's words
-abbrev pub store_in : Cell → Cell → ℕ → List ℕ
-store_in permanent scratch a = pick (is_scope a) scratch.now permanent.now
+abbrev pub store_in : List ℕ → List ℕ → ℕ → List ℕ
+store_in permanent scratch a = pick (is_scope a) scratch permanent
 
--- of the two stores that a function is lent, that of area a has changed by f
-abbrev pub Stores : Borrowed → Borrowed → ℕ → (List ℕ → List ℕ) → Type 0
-Stores permanent scratch a f =
-    StoreWritten permanent.exit.now scratch.exit.now permanent.entry.now scratch.entry.now a (f (store_in permanent.entry scratch.entry a))
+-- of the two stores p and s that a function is lent, that of area a has changed by f; they are p' and s' then
+abbrev pub Stores : List ℕ → List ℕ → List ℕ → List ℕ → ℕ → (List ℕ → List ℕ) → Type 0
+Stores p s p' s' a f = StoreWritten p' s' p s a (f (store_in p s a))
 
 pub stored_permanent : (p s : List ℕ) (a : ℕ) (f : List ℕ → List ℕ) → a < 2 → StoreWritten (f p) s p s a (f (pick (is_scope a) s p))
 stored_permanent p s a f h = record { permanent_is = rw (lt-leb 2 a h); scratch_is = rw (lt-leb 2 a h) }

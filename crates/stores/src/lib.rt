@@ -9,7 +9,7 @@ ghost use Rattle.stores.specs.Stores.{store_in, Stores};
 
 // The store that has an area's words.
 pub fn store_of<'a>(permanent: &'a [u64], scratch: &'a [u64], area: u64) -> &'a [u64]
-    ensures { result.now ≡ store_in permanent.entry scratch.entry area }
+    ensures { result.now ≡ store_in permanent.now scratch.now area }
 {
     if 2 <= area {
         return scratch;
@@ -19,8 +19,8 @@ pub fn store_of<'a>(permanent: &'a [u64], scratch: &'a [u64], area: u64) -> &'a 
 
 // A word of the store that has an area's words.
 pub fn word_at(permanent: &[u64], scratch: &[u64], area: u64, at: usize) -> u64
-    requires { at < length (store_in permanent scratch area) }
-    ensures { result ≡ get_or (store_in permanent.entry scratch.entry area) at 0 }
+    requires { at < length (store_in permanent.now scratch.now area) }
+    ensures { result ≡ get_or (store_in permanent.now scratch.now area) at 0 }
 {
     if 2 <= area {
         return scratch[at];
@@ -31,8 +31,8 @@ pub fn word_at(permanent: &[u64], scratch: &[u64], area: u64, at: usize) -> u64
 // A word into the store that has an area's words. The test is that of `store_of`: the compiler then keeps the store that
 // was chosen for the look-up.
 pub fn put_word(permanent: &mut [u64], scratch: &mut [u64], area: u64, at: usize, word: u64)
-    requires { at < length (store_in permanent scratch area) }
-    ensures { Stores permanent scratch area (λ l. set l at word) }
+    requires { at < length (store_in permanent.old scratch.old area) }
+    ensures { Stores permanent.old scratch.old permanent.new scratch.new area (λ l. set l at word) }
 {
     if 2 <= area {
         scratch[at] = word;

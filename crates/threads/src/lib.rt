@@ -5,8 +5,8 @@ ghost use Rattle.std.specs.Prelude.{◌≡◌, ◌<◌};
 ghost use Rattle.model.specs.State.{thread_at, with_kind, with_thread};
 ghost use Rattle.model.specs.Threads.{startable, start_change, end_rest, end_change};
 ghost use Rattle.model.specs.Calls as calls;
-ghost use Rattle.tables.specs.Decode.{Shaped};
-ghost use Rattle.tables.specs.Contract.{before, Leaves, Usable, Changes, Answers};
+ghost use Rattle.tables.specs.Decode.{Shaped, state_of, Holds};
+ghost use Rattle.tables.specs.Contract.{Changes, Answers, Ready, memory_of};
 
 use layout::answer::Answer;
 use tables::{Bytes, ThreadWords, Words};
@@ -14,7 +14,7 @@ use tables::{Bytes, ThreadWords, Words};
 // Another kind of a thread, whose stack stays as it is.
 fn put_kind(words: &mut Words, bytes: &Bytes, t: usize, kind: u64)
     requires { Shaped words.old bytes.now × (t < 16) }
-    ensures { Leaves words bytes (with_thread (before words bytes) t (with_kind (thread_at (before words bytes) t) kind)) }
+    ensures { Holds words.new bytes.now (with_thread (state_of words.old bytes.now) t (with_kind (thread_at (state_of words.old bytes.now) t) kind)) }
 {
     let len = held_threads::thread_at(words, t).len;
     held_threads::put_thread(words, t, ThreadWords { kind, len });
@@ -24,7 +24,7 @@ fn put_kind(words: &mut Words, bytes: &Bytes, t: usize, kind: u64)
 
 // Refusals 2, 3 and 4 of a thread that is to start.
 pub fn check_start(words: &Words, bytes: &Bytes, t: u64, kind: u64) -> u64
-    ensures { result ≡ startable (before words bytes) t kind 0 }
+    ensures { result ≡ startable (state_of words.now bytes.now) t kind 0 }
 {
     if 16 <= t {
         return 2;
@@ -44,8 +44,11 @@ pub fn check_start(words: &Words, bytes: &Bytes, t: u64, kind: u64) -> u64
 
 // After refusal 1.
 pub fn start_on(words: &mut Words, bytes: &Bytes, t: u64, kind: u64) -> Answer
-    requires { Usable words bytes }
-    ensures { Changes result words bytes (start_change (before words bytes) t kind) }
+    requires { Ready words.old bytes.now }
+    ensures {
+        Changes result (start_change (state_of words.old bytes.now) t kind)
+        words.old bytes.now words.new bytes.now
+    }
 {
     let status = check_start(words, bytes, t, kind);
     if status == 0 {
@@ -64,8 +67,12 @@ pub fn start(
     t: u64,
     kind: u64,
 ) -> Answer
-    requires { Usable words bytes }
-    ensures { Answers result words bytes permanent scratch map written (calls.start t kind) }
+    requires { Ready words.old bytes.now }
+    ensures {
+        Answers result (calls.start t kind)
+        words.old bytes.now (memory_of permanent.now scratch.now map.now written.now)
+        words.new bytes.now (memory_of permanent.now scratch.now map.now written.now)
+    }
 {
     let fit = callers::lengths_fit(words, bytes, permanent, scratch, map, written);
     if !fit {
@@ -80,7 +87,7 @@ pub fn start(
 // ---- op 02, end thread
 
 fn check_end(words: &Words, bytes: &Bytes, t: u64) -> u64
-    ensures { result ≡ end_rest (before words bytes) t }
+    ensures { result ≡ end_rest (state_of words.now bytes.now) t }
 {
     let refusal = callers::check_thread(words, bytes, t);
     if refusal != 0 {
@@ -94,8 +101,8 @@ fn check_end(words: &Words, bytes: &Bytes, t: u64) -> u64
 
 // After refusal 1.
 pub fn end_on(words: &mut Words, bytes: &Bytes, t: u64) -> Answer
-    requires { Usable words bytes }
-    ensures { Changes result words bytes (end_change (before words bytes) t) }
+    requires { Ready words.old bytes.now }
+    ensures { Changes result (end_change (state_of words.old bytes.now) t) words.old bytes.now words.new bytes.now }
 {
     let refusal = check_end(words, bytes, t);
     if refusal == 0 {
@@ -117,8 +124,12 @@ pub fn end(
     written: &[u64],
     t: u64,
 ) -> Answer
-    requires { Usable words bytes }
-    ensures { Answers result words bytes permanent scratch map written (calls.end t) }
+    requires { Ready words.old bytes.now }
+    ensures {
+        Answers result (calls.end t)
+        words.old bytes.now (memory_of permanent.now scratch.now map.now written.now)
+        words.new bytes.now (memory_of permanent.now scratch.now map.now written.now)
+    }
 {
     let fits = callers::lengths_fit(words, bytes, permanent, scratch, map, written);
     if !fits {

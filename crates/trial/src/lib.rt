@@ -3,8 +3,8 @@
 #![tactic(auto)]
 
 ghost use Rattle.std.specs.Prelude.{◌≡◌};
-ghost use Rattle.tables.specs.Contract.{returned};
 ghost use Rattle.trial.specs.Trial.{Tried};
+ghost use Rattle.tables.specs.Contract.{memory_of};
 
 use tables::{Bytes, Words};
 
@@ -23,7 +23,7 @@ pub fn trial(
     i: u64,
     t: u64,
 ) -> u64
-    ensures { result ≡ 0 → Tried words.new bytes.new (returned permanent scratch map written) text.now t }
+    ensures { result ≡ 0 → Tried words.new bytes.new (memory_of permanent.new scratch.new map.new written.new) text.now t }
 {
     let status = host_state::scopes_set_up_in_place(
         words, bytes, permanent, scratch, map, written, h, i,

@@ -11,7 +11,7 @@ use Rattle.model.specs.Data.{data_index, view_refusal}
 use Rattle.model.specs.Calls.{view, view_status}
 use Rattle.objects.specs.declared.check.Checked.{Checked}
 use Rattle.objects.specs.declared.check.Checked.TheVariants.{Passed, Refused}
-use Rattle.tables.specs.Contract.{Borrowed, supplied, plain, view_reply, Replies}
+use Rattle.tables.specs.Contract.{plain, view_reply, Replies}
 use Rattle.views.specs.declared.ViewPlace.{ViewPlace}
 
 -- "shown as a part of the permanent or scratch store itself": of two things, one for each store, that of the store that is shown a part of:
@@ -51,16 +51,11 @@ pub record PlacedAt (slice permanent scratch : ℕ × ℕ) (s : State) (m : Memo
   pub store_is : slice.0 ≡ (view_store s m t p permanent scratch).0
   pub place_is : slice.1 ≡ view_from s m t p * 8 + (view_store s m t p permanent scratch).1
 
--- the same over the stores that a function is lent
-abbrev pub PlacedView : ℕ × ℕ → Borrowed → Borrowed → State → Memory → ℕ → ℕ → Type 0
-PlacedView slice permanent scratch s m t p = PlacedAt slice permanent.entry.ptr scratch.entry.ptr s m t p
-
 -- the words that lie at a place
 abbrev pub words_there : ViewPlace → Memory → List ℕ
 words_there r m = take r.len (drop r.from (pick (eqb r.store 0) m.permanent m.scratch))
 
 -- one place answers both calls: the words there are what the view shows, and the status is that of the call beside it
-pub record PlaceAnswers (r : ViewPlace) (words bytes permanent scratch map written : Borrowed) (t p : ℕ) : Type 0 where
-  pub shows : Replies (view_reply (words_there r (supplied permanent scratch map written)))
-      words bytes permanent scratch map written (view t p)
-  pub tells : Replies (plain r.status 0) words bytes permanent scratch map written (view_status t p)
+pub record PlaceAnswers (r : ViewPlace) (w b : List ℕ) (m : Memory) (t p : ℕ) : Type 0 where
+  pub shows : Replies (view_reply (words_there r m)) (view t p) w b m w b m
+  pub tells : Replies (plain r.status 0) (view_status t p) w b m w b m

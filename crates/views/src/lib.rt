@@ -5,9 +5,10 @@
 ghost use Rattle.std.specs.Prelude.{◌≡◌, ◌<◌};
 ghost use Rattle.model.specs.Checks.{called, use_rest};
 ghost use Rattle.model.specs.Calls as calls;
-ghost use Rattle.tables.specs.Contract.{before, supplied, Usable, view_reply, Replies, Answers};
+ghost use Rattle.tables.specs.Contract.{view_reply, Replies, Answers, Ready, memory_of};
 ghost use Rattle.objects.specs.Resolving.{Fitting, Checks};
-ghost use Rattle.views.specs.PlacedView.{data_start, placed_in, view_place_of, PlacedView};
+ghost use Rattle.views.specs.PlacedView.{data_start, placed_in, view_place_of, PlacedAt};
+ghost use Rattle.tables.specs.Decode.{state_of};
 
 use layout::answer::Answer;
 use layout::handle;
@@ -36,8 +37,8 @@ fn check_view<'a>(
     t: u64,
     p: u64,
 ) -> Checked
-    requires { Fitting words bytes permanent scratch map }
-    ensures { Checks result words bytes permanent scratch map p (λ s m. called s t (use_rest s m t p 0)) }
+    requires { Fitting words.now bytes.now permanent.now scratch.now map.now }
+    ensures { Checks result words.now bytes.now permanent.now scratch.now map.now p (λ s m. called s t (use_rest s m t p 0)) }
 {
     let refusal = callers::check_thread(words, bytes, t);
     if refusal != 0 {
@@ -79,8 +80,8 @@ pub fn view_place<'a>(
     t: u64,
     p: u64,
 ) -> ViewPlace
-    requires { Usable words bytes }
-    ensures { result ≡ view_place_of (before words bytes) (supplied permanent scratch map written) t p }
+    requires { Ready words.now bytes.now }
+    ensures { result ≡ view_place_of (state_of words.now bytes.now) (memory_of permanent.now scratch.now map.now written.now) t p }
 {
     let fit = callers::lengths_fit(words, bytes, permanent, scratch, map, written);
     if !fit {
@@ -109,9 +110,13 @@ pub fn view<'a>(
     t: u64,
     p: u64,
 ) -> &'a [u64]
-    requires { Usable words bytes }
-    ensures answer { Replies (view_reply result.now) words bytes permanent scratch map written (calls.view t p) }
-    ensures place { PlacedView result.ref_ptr permanent scratch (before words bytes) (supplied permanent scratch map written) t p }
+    requires { Ready words.now bytes.now }
+    ensures answer {
+        Replies (view_reply result.now) (calls.view t p)
+        words.now bytes.now (memory_of permanent.now scratch.now map.now written.now)
+        words.now bytes.now (memory_of permanent.now scratch.now map.now written.now)
+    }
+    ensures place { PlacedAt result.ref_ptr permanent.entry.ref_ptr scratch.entry.ref_ptr (state_of words.now bytes.now) (memory_of permanent.now scratch.now map.now written.now) t p }
 {
     let place = view_place(words, bytes, permanent, scratch, map, written, t, p);
     let from = place.from as usize;
@@ -133,8 +138,12 @@ pub fn view_status<'a>(
     t: u64,
     p: u64,
 ) -> Answer
-    requires { Usable words bytes }
-    ensures { Answers result words bytes permanent scratch map written (calls.view_status t p) }
+    requires { Ready words.now bytes.now }
+    ensures {
+        Answers result (calls.view_status t p)
+        words.now bytes.now (memory_of permanent.now scratch.now map.now written.now)
+        words.now bytes.now (memory_of permanent.now scratch.now map.now written.now)
+    }
 {
     let fit = callers::lengths_fit(words, bytes, permanent, scratch, map, written);
     if !fit {

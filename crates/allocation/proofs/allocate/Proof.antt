@@ -9,7 +9,8 @@ use Rattle.model.proofs.Accepted.{Admitted}
 use Rattle.model.proofs.Bounds.{current_area}
 use Rattle.tables.specs.declared.Entry.{Entry}
 use Rattle.tables.specs.Laws.{area_read}
-use Rattle.tables.specs.Contract.{state_in, memory_in}
+use Rattle.tables.specs.Decode.{state_of}
+use Rattle.tables.specs.Contract.{memory_of}
 use Rattle.tables.specs.AnsweredLaws.{answered_refused, answered_accepted}
 use Rattle.callers.specs.Caller.{caller_admitted}
 use Rattle.allocation.specs.Allocation.{allocate_not_admitted, allocate_checked, has_room}
@@ -21,10 +22,10 @@ abbrev start : tie.Else1 → tie.Start
 start c = c.before.before.before.before.before.before.before.before.before.before.before
 
 abbrev state : tie.Else1 → State
-state c = state_in (start c).args.words (start c).args.bytes
+state c = state_of (start c).args.words.now (start c).args.bytes.now
 
 abbrev memory : tie.Else1 → Memory
-memory c = memory_in (start c).args.permanent (start c).args.scratch (start c).args.map (start c).args.written
+memory c = memory_of (start c).args.permanent.now (start c).args.scratch.now (start c).args.map.now (start c).args.written.now
 
 abbrev call : tie.Else1 → calls.Call
 call c = calls.allocate (start c).args.t (start c).args.slots (start c).args.data-words

@@ -3,7 +3,7 @@ use Prim.Native.Nat.{◌+◌, ◌≤◌}
 use native.Mathlib.Omega.{arith}
 use borrow.Author.Rules.{rules}
 use Rattle.model.specs.State.{Memory}
-use Rattle.tables.specs.Contract.{memory_in}
+use Rattle.tables.specs.Contract.{memory_of}
 use Rattle.allocation.specs.Allocation.{words_low, words_in, bit_sum, bits_in, written_in, bits_low, allocated}
 use Rattle.allocation.proofs.apply_allocate.Statement.{statement}
 use Rattle.allocation.proofs.apply_allocate.Tie as tie
@@ -13,7 +13,7 @@ abbrev start : tie.After-put-area → tie.Start
 start c = c.before.before.before.before.before.before.before
 
 abbrev memory : tie.After-put-area → Memory
-memory c = memory_in (start c).args.permanent (start c).args.scratch (start c).args.map (start c).args.written
+memory c = memory_of (start c).args.permanent.now (start c).args.scratch.now (start c).args.map.now (start c).args.written.now
 
 -- where the area was written, from what comes later: its bit is found
 abbrev written : tie.After-bit-index → tie.After-put-area

@@ -3,7 +3,7 @@ use native.Mathlib.Omega.{arith}
 use borrow.Author.Rules.{rules}
 use Rattle.model.specs.State.{State}
 use Rattle.model.proofs.Accepted.{Called}
-use Rattle.tables.specs.Contract.{state_in}
+use Rattle.tables.specs.Decode.{state_of}
 use Rattle.tables.specs.AnsweredLaws.{changed_refused}
 use Rattle.callers.specs.Caller.{thread_called}
 use Rattle.entry.specs.Enter.{enter_not_called, enter_no_area}
@@ -15,7 +15,7 @@ abbrev start : tie.Else1 → tie.Start
 start c = c.before.before.before.before
 
 abbrev state : tie.Else1 → State
-state c = state_in (start c).args.words (start c).args.bytes
+state c = state_of (start c).args.words.now (start c).args.bytes.now
 
 called : (c : tie.Else1) → Called (state c) (start c).args.t
 called c = thread_called (state c) (start c).args.t c.before.check-thread.ensures c.if1.false

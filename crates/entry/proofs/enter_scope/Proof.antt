@@ -6,7 +6,7 @@ use Rattle.model.specs.Scopes.{enter_rest, enter_change}
 use Rattle.model.proofs.Accepted.{enter_ok}
 use Rattle.model.proofs.KeepsEnter.{good_enter}
 use Rattle.tables.specs.declared.Entry.{Entry}
-use Rattle.tables.specs.Contract.{state_in}
+use Rattle.tables.specs.Decode.{state_of}
 use Rattle.tables.specs.Laws.{area_read}
 use Rattle.tables.specs.AnsweredLaws.{changed_refused, changed_accepted}
 use Rattle.entry.specs.Enter.{there_refused, scope_checked, enterable}
@@ -23,14 +23,14 @@ returns c =
     let o = start d in
     let a = o.args in
     changed_refused _ _ _ o.pre.0
-    (there_refused (state_in a.words a.bytes) a.t a.q o.pre.1 o.pre.3 d.check-there.ensures c.if1.true)
+    (there_refused (state_of a.words.now a.bytes.now) a.t a.q o.pre.1 o.pre.3 d.check-there.ensures c.if1.true)
     c.if1.true
 
 -- the top is read
 abbrev passed : tie.After-top-entry → tie.Else1
 passed i = i.before.before.before
 
-inner : (i : tie.After-top-entry) → let a = (start (passed i).before).args in i.top-entry.result.inner ≡ innermost (stack_at (state_in a.words a.bytes) a.t)
+inner : (i : tie.After-top-entry) → let a = (start (passed i).before).args in i.top-entry.result.inner ≡ innermost (stack_at (state_of a.words.now a.bytes.now) a.t)
 inner i = ap (λ (y : Entry). y.inner) i.top-entry.ensures
 
 -- 10 and 17 are checked too
@@ -40,13 +40,13 @@ read m = m.before.before.before
 abbrev first : tie.After-check-scope → tie.Start
 first m = start (passed (read m)).before
 
-checked : (m : tie.After-check-scope) → m.check-scope.result ≡ enter_rest (state_in (first m).args.words (first m).args.bytes) (first m).args.t (first m).args.q
+checked : (m : tie.After-check-scope) → m.check-scope.result ≡ enter_rest (state_of (first m).args.words.now (first m).args.bytes.now) (first m).args.t (first m).args.q
 checked m =
     let x = m.before in
     let e = passed (read m) in
     let o = first m in
     let a = o.args in
-    scope_checked (state_in a.words a.bytes) a.t a.q o.pre.1 o.pre.3 e.before.check-there.ensures o.pre.2 e.if1.left
+    scope_checked (state_of a.words.now a.bytes.now) a.t a.q o.pre.1 o.pre.3 e.before.check-there.ensures o.pre.2 e.if1.left
     (x.area-at.ensures ∙ sym (area_read a.words.now a.bytes.now a.q o.pre.3)) (read m).top-entry.ensures m.check-scope.ensures
 
 returns-2 : tie.Need-returns-2
@@ -58,7 +58,7 @@ apply-enter-requires c κs =
     let m = d.before in
     let o = first m in
     let a = o.args in
-    let k = enterable (state_in a.words a.bytes) a.t a.q o.pre.0.good (checked m) d.if2.false in
+    let k = enterable (state_of a.words.now a.bytes.now) a.t a.q o.pre.0.good (checked m) d.if2.false in
     ((o.pre.0.sized, k, o.pre.2), inner (read m))
 
 returns-3 : tie.Need-returns-3
@@ -67,7 +67,7 @@ returns-3 c =
     let m = d.before in
     let o = first m in
     let a = o.args in
-    let s = state_in a.words a.bytes in
+    let s = state_of a.words.now a.bytes.now in
     let z = d.if2.false in
     changed_accepted _ _ (enter_change s a.t a.q) o.pre.0 (checked m) z c.apply-enter.ensures.0 c.apply-enter.ensures.1
     (good_enter s a.t a.q o.pre.0.good (enter_ok s a.t a.q (sym (checked m) ∙ z)))

@@ -8,7 +8,7 @@ use Rattle.model.specs.Scopes.{enter_rest}
 use Rattle.model.proofs.Accepted.{enter_ok}
 use Rattle.model.proofs.KeepsEnter.{good_enter}
 use Rattle.tables.specs.declared.Entry.{Entry}
-use Rattle.tables.specs.Contract.{state_in}
+use Rattle.tables.specs.Decode.{state_of}
 use Rattle.tables.specs.AnsweredLaws.{changed_refused, changed_accepted}
 use Rattle.entry.specs.Enter.{standing_checked, enterable}
 use Rattle.opening.specs.Entered.{value_standing, standing_holds}
@@ -22,10 +22,10 @@ area o = omega (arith, o.requires.2)
 abbrev start : tie.After-check-there → tie.Start
 start c = c.before.before.before
 
-checked : (c : tie.After-check-there) → c.check-there.result ≡ enter_rest (state_in (start c).args.words (start c).args.bytes) (start c).args.t (start c).args.q
+checked : (c : tie.After-check-there) → c.check-there.result ≡ enter_rest (state_of (start c).args.words.now (start c).args.bytes.now) (start c).args.t (start c).args.q
 checked c =
     let o = start c in
-    standing_checked (state_in o.args.words o.args.bytes) o.args.t o.args.q o.pre.1 (area o) c.check-there.ensures o.pre.2
+    standing_checked (state_of o.args.words.now o.args.bytes.now) o.args.t o.args.q o.pre.1 (area o) c.check-there.ensures o.pre.2
 
 returns : tie.Need-returns
 returns c = changed_refused _ _ _ (start c.before).requires.0 (checked c.before) c.if1.true
@@ -34,14 +34,14 @@ returns c = changed_refused _ _ _ (start c.before).requires.0 (checked c.before)
 abbrev passed : tie.After-top-entry → tie.Else1
 passed i = i.before.before.before
 
-inner : (i : tie.After-top-entry) → let a = (start (passed i).before).args in i.top-entry.result.inner ≡ innermost (stack_at (state_in a.words a.bytes) a.t)
+inner : (i : tie.After-top-entry) → let a = (start (passed i).before).args in i.top-entry.result.inner ≡ innermost (stack_at (state_of a.words.now a.bytes.now) a.t)
 inner i = ap (λ (y : Entry). y.inner) i.top-entry.ensures
 
 push-requires : tie.Need-push-requires
 push-requires c κs =
     let e = passed c.before.before.before.before in
     let o = start e.before in
-    let k = enterable (state_in o.args.words o.args.bytes) o.args.t o.args.q o.pre.0.good (checked e.before) e.if1.left in
+    let k = enterable (state_of o.args.words.now o.args.bytes.now) o.args.t o.args.q o.pre.0.good (checked e.before) e.if1.left in
     (o.pre.0.sized, k.thread, k.room)
 
 returns-2 : tie.Need-returns-2
@@ -51,7 +51,7 @@ returns-2 c =
     let e = passed i in
     let o = start e.before in
     let a = o.args in
-    let s = state_in a.words a.bytes in
+    let s = state_of a.words.now a.bytes.now in
     let z = e.if1.left in
     changed_accepted _ _ _ o.pre.0 (checked e.before) z
     (value_standing a.words.now a.bytes.now a.t a.q o.pre.2 x.area-at.ensures)

@@ -2,7 +2,7 @@
 use mathlib.Core.Path.{◌≡◌, ap}
 use borrow.Author.Rules.{rules}
 use Rattle.tables.specs.declared.Entry.{Entry}
-use Rattle.tables.specs.Contract.{state_in}
+use Rattle.tables.specs.Decode.{state_of}
 use Rattle.model.specs.State.{stack_at, current}
 use Rattle.model.proofs.Bounds.{current_area, current_open}
 use Rattle.exit.specs.Exit.{popped_open, exited_holds, exited_value}
@@ -13,7 +13,7 @@ use Rattle.exit.proofs.apply_exit.Tie as tie
 abbrev start : tie.After-top-entry → tie.Start
 start c = c.before.before
 
-top : (c : tie.After-top-entry) → c.top-entry.result.area ≡ current (stack_at (state_in (start c).args.words (start c).args.bytes) (start c).args.t)
+top : (c : tie.After-top-entry) → c.top-entry.result.area ≡ current (stack_at (state_of (start c).args.words.now (start c).args.bytes.now) (start c).args.t)
 top c = ap (λ (x : Entry). x.area) c.top-entry.ensures
 
 leave-area-requires : tie.Need-leave-area-requires
@@ -22,7 +22,7 @@ leave-area-requires c κs =
     let x = m.before.before in
     let o = start x in
     let a = o.args in
-    let s = state_in a.words a.bytes in (
+    let s = state_of a.words.now a.bytes.now in (
       m.pop.ensures.sized,
       rw (top x) (current_area s o.pre.0.good a.t o.pre.1),
       popped_open a.words.now a.bytes.now a.t _ m.pop.ensures (top x) (current_open s o.pre.0.good a.t o.pre.1),

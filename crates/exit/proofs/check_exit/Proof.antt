@@ -3,7 +3,7 @@ use mathlib.Core.Path.{◌≡◌}
 use native.Mathlib.Omega.{arith}
 use borrow.Author.Rules.{rules}
 use Rattle.model.specs.State.{State, thread_at}
-use Rattle.tables.specs.Contract.{state_in}
+use Rattle.tables.specs.Decode.{state_of}
 use Rattle.tables.specs.Laws.{len_read}
 use Rattle.callers.specs.Caller.{thread_called}
 use Rattle.exit.specs.Exit.{exit_no_thread, exit_not_called, exit_empty, exit_accepted}
@@ -15,7 +15,7 @@ abbrev start : tie.After-thread-at → tie.Start
 start c = c.before.before
 
 abbrev state : tie.After-thread-at → State
-state c = state_in (start c).args.words (start c).args.bytes
+state c = state_of (start c).args.words.now (start c).args.bytes.now
 
 len_is : (c : tie.After-thread-at) → (thread_at (state c) (start c).args.t).len ≡ c.thread-at.result.len
 len_is c = let a = (start c).args in len_read a.words.now a.bytes.now a.t c.before.if1.false c.thread-at.ensures

@@ -1,7 +1,7 @@
 -- `exit::exit_on` meets its contract. Assumes nothing.
 use borrow.Author.Rules.{rules}
 use Rattle.model.proofs.KeepsExit.{good_exit}
-use Rattle.tables.specs.Contract.{state_in}
+use Rattle.tables.specs.Decode.{state_of}
 use Rattle.tables.specs.AnsweredLaws.{changed_refused, changed_accepted}
 use Rattle.exit.specs.Exit.{exit_passed}
 use Rattle.exit.proofs.exit_on.Statement.{statement}
@@ -20,7 +20,7 @@ returns-2 : tie.Need-returns-2
 returns-2 c =
     let o = c.before.before.before.before.before in
     let a = o.args in
-    let s = state_in a.words a.bytes in
+    let s = state_of a.words.now a.bytes.now in
     let e = c.before.before.before.check-exit.ensures in
     let z = c.before.before.if1.false in
     changed_accepted _ _ _ o.requires e z c.apply-exit.ensures.0 c.apply-exit.ensures.1

@@ -1,5 +1,5 @@
 -- `apply_helper` meets its contract: the counts are raised, then the starter's stack is the helper's too.
-use Rattle.tables.specs.Contract.{state_in}
+use Rattle.tables.specs.Decode.{state_of}
 use Rattle.helpers.specs.Helper.{copied_holds}
 use Rattle.helpers.proofs.apply_helper.Statement.{statement}
 use Rattle.helpers.proofs.apply_helper.Tie as tie
@@ -13,7 +13,7 @@ returns c =
     let a = o.args in
     rw (p.put-thread.ensures, c.copy-stack.ensures)
     (copied_holds a.bytes.now _ a.t a.kind a.helper o.requires.1.called.thread o.requires.1.helper.thread x.thread-at.ensures
-    (state_in a.words a.bytes) r.raise-counts.ensures)
+    (state_of a.words.now a.bytes.now) r.raise-counts.ensures)
 
 pub apply_helper_spec : {M : Type 1} → statement M
 apply_helper_spec =

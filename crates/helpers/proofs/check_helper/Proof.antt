@@ -4,7 +4,7 @@ use borrow.Author.Tests.{not-true, not-false}
 use native.Mathlib.Omega.{arith}
 use Rattle.model.specs.State.{State}
 use Rattle.model.proofs.Accepted.{Called, StartOk}
-use Rattle.tables.specs.Contract.{state_in}
+use Rattle.tables.specs.Decode.{state_of}
 use Rattle.callers.specs.Caller.{thread_called}
 use Rattle.helpers.specs.Helper.{helper_not_called, helper_not_startable, startable_is, no_right, helper_accepted}
 use Rattle.helpers.proofs.check_helper.Statement.{statement}
@@ -15,7 +15,7 @@ abbrev start : tie.Else1 → tie.Start
 start c = c.before.before
 
 abbrev state : tie.Else1 → State
-state c = state_in (start c).args.words (start c).args.bytes
+state c = state_of (start c).args.words.now (start c).args.bytes.now
 
 called : (c : tie.Else1) → Called (state c) (start c).args.t
 called c = thread_called (state c) (start c).args.t c.before.check-thread.ensures c.if1.false

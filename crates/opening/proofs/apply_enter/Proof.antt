@@ -3,13 +3,13 @@ use mathlib.Core.Path.{◌≡◌, sym, ◌∙◌, subst}
 use Prim.Native.Nat.{◌<◌, ◌≤◌}
 use Rattle.model.specs.declared.Area.{Area}
 use Rattle.model.specs.State.{area_at}
-use Rattle.tables.specs.Contract.{state_in}
+use Rattle.tables.specs.Decode.{state_of}
 use Rattle.tables.specs.Laws.{area_read}
 use Rattle.opening.proofs.apply_enter.Statement.{statement}
 use Rattle.opening.proofs.apply_enter.Tie as tie
 
 -- the area is read
-read : (x : tie.After-area-at) → x.area-at.result ≡ area_at (state_in x.before.before.args.words x.before.before.args.bytes) x.before.before.args.q
+read : (x : tie.After-area-at) → x.area-at.result ≡ area_at (state_of x.before.before.args.words.now x.before.before.args.bytes.now) x.before.before.args.q
 read x =
     let o = x.before.before in
     let a = o.args in

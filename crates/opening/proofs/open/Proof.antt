@@ -3,7 +3,7 @@ use mathlib.Core.Path.{◌≡◌}
 use Prim.Native.Nat.{◌<◌}
 use borrow.Author.Rules.{rules}
 use Rattle.model.specs.State.{area_at}
-use Rattle.tables.specs.Contract.{state_in}
+use Rattle.tables.specs.Decode.{state_of}
 use Rattle.opening.specs.Entered.{parent_room, depth_room, generation_room, area_kept, value_fresh, fresh_holds}
 use Rattle.opening.proofs.open.Statement.{statement}
 use Rattle.opening.proofs.open.Tie as tie
@@ -18,7 +18,7 @@ abbrev start : tie.After-push → tie.Start
 start m = m.before.before.before
 
 parent : (o : tie.Start) → o.args.p < 64
-parent o = let a = o.args in parent_room (state_in a.words a.bytes) a.t a.q o.requires.0.1 a.p o.requires.1
+parent o = let a = o.args in parent_room (state_of a.words.now a.bytes.now) a.t a.q o.requires.0.1 a.p o.requires.1
 
 -- the parent is read
 depth : (u : tie.After-area-at) → u.area-at.result.depth < 32
@@ -27,7 +27,7 @@ depth u =
     let o = start m in
     let k = o.pre.0 in
     let a = o.args in
-    depth_room (state_in a.words a.bytes) a.t a.q k.1 a.p o.pre.1
+    depth_room (state_of a.words.now a.bytes.now) a.t a.q k.1 a.p o.pre.1
     (area_kept a.words.now a.bytes.now a.t a.q k.1 k.2 m.push.ensures a.p (parent o) u.area-at.ensures)
 
 opened-area-requires : tie.Need-opened-area-requires
@@ -37,7 +37,7 @@ opened-area-requires c κs =
     let o = start m in
     let k = o.pre.0 in
     let a = o.args in (
-      generation_room (state_in a.words a.bytes) a.t a.q k.1
+      generation_room (state_of a.words.now a.bytes.now) a.t a.q k.1
           (area_kept a.words.now a.bytes.now a.t a.q k.1 k.2 m.push.ensures a.q k.1.area c.area-at2.ensures) k.2 k.3,
       depth u,
     )

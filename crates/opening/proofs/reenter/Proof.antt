@@ -1,6 +1,6 @@
 -- `reenter` meets its contract: the stack is written, then the area.
 use borrow.Author.Rules.{rules}
-use Rattle.tables.specs.Contract.{state_in}
+use Rattle.tables.specs.Decode.{state_of}
 use Rattle.opening.specs.Entered.{count_room, area_kept, value_open, open_holds}
 use Rattle.opening.proofs.reenter.Statement.{statement}
 use Rattle.opening.proofs.reenter.Tie as tie
@@ -20,7 +20,7 @@ reentered-requires c κs =
     let m = x.before.before in
     let o = start m in
     let a = o.args in
-    count_room (state_in a.words a.bytes) a.t a.q o.pre.1
+    count_room (state_of a.words.now a.bytes.now) a.t a.q o.pre.1
     (area_kept a.words.now a.bytes.now a.t a.q o.pre.1 o.pre.2 m.push.ensures a.q o.pre.1.area x.area-at.ensures)
 
 returns : tie.Need-returns

@@ -4,7 +4,8 @@ use mathlib.Core.List.{List}
 use mathlib.Core.Path.{◌≡◌, sym, ◌∙◌}
 use borrow.Author.Rules.{rules}
 use Rattle.model.specs.State.{State, Memory}
-use Rattle.tables.specs.Contract.{state_in, memory_of}
+use Rattle.tables.specs.Decode.{state_of}
+use Rattle.tables.specs.Contract.{memory_of}
 use borrow.Author.Tests.{not-true, not-false}
 use Rattle.objects.specs.declared.find.Found.TheVariants.{At}
 use Rattle.objects.specs.Found.{found_of}
@@ -17,7 +18,7 @@ abbrev start : tie.Else1 → tie.Start
 start c = c.before.before.before.before
 
 abbrev state : tie.Else1 → State
-state c = state_in (start c).args.words (start c).args.bytes
+state c = state_of (start c).args.words.now (start c).args.bytes.now
 
 -- with any written map
 abbrev memory : tie.Else1 → List ℕ → Memory

@@ -9,7 +9,8 @@ use Rattle.layout.specs.Handle.{area_of}
 use Rattle.layout.specs.HandleLaws.{area_lt}
 use Rattle.model.specs.State.{State, Memory}
 use Rattle.model.specs.References.{may_refer, slot_rest}
-use Rattle.tables.specs.Contract.{state_in, memory_of}
+use Rattle.tables.specs.Decode.{state_of}
+use Rattle.tables.specs.Contract.{memory_of}
 use Rattle.objects.specs.declared.index.Part.TheVariants.{Slots}
 use Rattle.layout.specs.Verdict.{passed_verdict, stopped_verdict, verdict_passed, verdict_stopped}
 use Rattle.objects.specs.Indexed.{word_of, indexed_cases}
@@ -22,7 +23,7 @@ abbrev start : tie.After-check-index → tie.Start
 start c = c.before.before.before.before
 
 abbrev state : tie.After-check-index → State
-state c = state_in (start c).args.words (start c).args.bytes
+state c = state_of (start c).args.words.now (start c).args.bytes.now
 
 -- with any written map
 abbrev memory : tie.After-check-index → List ℕ → Memory

@@ -3,7 +3,7 @@ use mathlib.Core.Path.{sym, ap, ◌∙◌}
 use native.Mathlib.Omega.{arith}
 use borrow.Author.Rules.{rules}
 use Rattle.model.specs.declared.Area.{Area}
-use Rattle.tables.specs.Contract.{state_in}
+use Rattle.tables.specs.Decode.{state_of}
 use Rattle.tables.specs.Laws.{area_read}
 use Rattle.model.proofs.Bounds.{depth_bound}
 use Rattle.references.specs.Statuses.{may_plain, may_deeper, may_look}
@@ -21,7 +21,7 @@ returns-2 c =
 row-holds-requires : tie.Need-row-holds-requires
 row-holds-requires c κs =
     let i = c.before.before.before.before in
-    let d = depth_bound (state_in i.args.words i.args.bytes) i.requires.0.good i.args.target i.requires.2 in
+    let d = depth_bound (state_of i.args.words.now i.args.bytes.now) i.requires.0.good i.args.target i.requires.2 in
     let e = ap (λ (x : Area). x.depth) (c.before.before.area-at.ensures ∙ sym (area_read i.args.words.now i.args.bytes.now i.args.target i.requires.2)) in
     (i.requires.1, omega (arith, d, e))
 

@@ -5,7 +5,8 @@ use Rattle.model.specs.State.{State, Memory}
 use Rattle.model.specs.References.{store_rest}
 use Rattle.model.specs.Calls as calls
 use Rattle.model.proofs.Accepted.{Admitted}
-use Rattle.tables.specs.Contract.{state_in, memory_in}
+use Rattle.tables.specs.Decode.{state_of}
+use Rattle.tables.specs.Contract.{memory_of}
 use Rattle.tables.specs.AnsweredLaws.{answered_refused, answered_accepted}
 use Rattle.callers.specs.Caller.{caller_refused, caller_admitted, admit_rest}
 use Rattle.objects.specs.declared.index.Part.TheVariants.{Slots}
@@ -22,10 +23,10 @@ abbrev start : tie.Else1 → tie.Start
 start c = c.before.before.before.before.before.before.before.before
 
 abbrev state : tie.Else1 → State
-state c = state_in (start c).args.words (start c).args.bytes
+state c = state_of (start c).args.words.now (start c).args.bytes.now
 
 abbrev memory : tie.Else1 → Memory
-memory c = memory_in (start c).args.permanent (start c).args.scratch (start c).args.map (start c).args.written
+memory c = memory_of (start c).args.permanent.now (start c).args.scratch.now (start c).args.map.now (start c).args.written.now
 
 abbrev call : tie.Else1 → calls.Call
 call c = calls.store (start c).args.t (start c).args.p (start c).args.q (start c).args.target

@@ -5,7 +5,7 @@ use borrow.Author.Tests.{not-true, not-false, ltb-true, ltb-false}
 use Rattle.model.specs.declared.Area.{Area}
 use Rattle.model.specs.State.{State, area_at, is_made}
 use Rattle.model.proofs.Accepted.{Called}
-use Rattle.tables.specs.Contract.{state_in}
+use Rattle.tables.specs.Decode.{state_of}
 use Rattle.tables.specs.Laws.{area_read, made_read}
 use Rattle.callers.specs.Caller.{thread_called}
 use Rattle.removal.specs.Remove.{remove_not_called, remove_low, remove_high, remove_unmade, remove_open, remove_accepted}
@@ -17,7 +17,7 @@ abbrev start : tie.Else1 → tie.Start
 start c = c.before.before
 
 abbrev state : tie.Else1 → State
-state c = state_in (start c).args.words (start c).args.bytes
+state c = state_of (start c).args.words.now (start c).args.bytes.now
 
 called : (c : tie.Else1) → Called (state c) (start c).args.t
 called c = thread_called _ _ c.before.check-thread.ensures c.if1.false

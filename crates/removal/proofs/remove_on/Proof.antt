@@ -3,7 +3,7 @@ use mathlib.Core.Path.{refl, sym, ◌∙◌}
 use borrow.Author.Rules.{rules}
 use Rattle.model.proofs.Accepted.{remove_ok}
 use Rattle.model.proofs.KeepsScopes.{good_remove}
-use Rattle.tables.specs.Contract.{state_in}
+use Rattle.tables.specs.Decode.{state_of}
 use Rattle.tables.specs.AnsweredLaws.{changed_refused, changed_accepted}
 use Rattle.removal.proofs.remove_on.Statement.{statement}
 use Rattle.removal.proofs.remove_on.Tie as tie
@@ -20,7 +20,7 @@ returns c =
     let e = c.before.before.before.check-remove.ensures in
     let z = c.before.before.if1.true in
     rw z (changed_accepted _ _ _ o.requires e z refl c.apply-remove.ensures
-    (good_remove (state_in a.words a.bytes) a.t a.q o.requires.good (remove_ok _ _ _ (sym e ∙ z))))
+    (good_remove (state_of a.words.now a.bytes.now) a.t a.q o.requires.good (remove_ok _ _ _ (sym e ∙ z))))
 
 returns-2 : tie.Need-returns-2
 returns-2 c = changed_refused _ _ _ c.before.before.before.requires c.before.check-remove.ensures c.if1.false

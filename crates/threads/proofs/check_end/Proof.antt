@@ -3,7 +3,7 @@ use mathlib.Core.Path.{sym, ◌∙◌}
 use borrow.Author.Rules.{rules}
 use Rattle.model.proofs.Accepted.{Called}
 use Rattle.tables.specs.Laws.{len_read}
-use Rattle.tables.specs.Contract.{state_in}
+use Rattle.tables.specs.Decode.{state_of}
 use Rattle.callers.specs.Caller.{thread_called}
 use Rattle.threads.specs.Thread.{end_not_called, end_entries, end_accepted}
 use Rattle.threads.proofs.check_end.Statement.{statement}
@@ -18,13 +18,13 @@ thread-at-requires c κs = (thread_called _ _ c.before.check-thread.ensures c.if
 returns-2 : tie.Need-returns-2
 returns-2 c =
     let a = c.before.before.before.before.before.args in
-    let k : Called (state_in a.words a.bytes) a.t = thread_called _ _ c.before.before.before.before.check-thread.ensures c.before.before.before.if1.false in
+    let k : Called (state_of a.words.now a.bytes.now) a.t = thread_called _ _ c.before.before.before.before.check-thread.ensures c.before.before.before.if1.false in
     end_entries _ _ k (rw (len_read a.words.now a.bytes.now a.t k.thread c.before.before.thread-at.ensures) (search rules))
 
 returns-3 : tie.Need-returns-3
 returns-3 c =
     let a = c.before.before.before.before.before.args in
-    let k : Called (state_in a.words a.bytes) a.t = thread_called _ _ c.before.before.before.before.check-thread.ensures c.before.before.before.if1.false in
+    let k : Called (state_of a.words.now a.bytes.now) a.t = thread_called _ _ c.before.before.before.before.check-thread.ensures c.before.before.before.if1.false in
     end_accepted _ _ k (rw (len_read a.words.now a.bytes.now a.t k.thread c.before.before.thread-at.ensures) (search rules))
 
 pub check_end_spec : {M : Type 1} → statement M

@@ -2,7 +2,7 @@
 use mathlib.Core.Path.{sym, ap, ◌∙◌}
 use borrow.Author.Rules.{rules}
 use Rattle.model.proofs.Accepted.{Called}
-use Rattle.tables.specs.Contract.{state_in}
+use Rattle.tables.specs.Decode.{state_of}
 use Rattle.objects.specs.Checked.{checked_of, refused_checked}
 use Rattle.callers.specs.Caller.{thread_refused, thread_called, called_rest}
 use Rattle.views.proofs.check_view.Statement.{statement}
@@ -15,7 +15,7 @@ start c = c.before.before.before.before.before
 returns : tie.Need-returns
 returns c x = refused_checked _ c.if1.true (thread_refused _ _ c.before.check-thread.ensures c.if1.true _)
 
-is_called : (c : tie.Else1) → Called (state_in (start c).args.words (start c).args.bytes) (start c).args.t
+is_called : (c : tie.Else1) → Called (state_of (start c).args.words.now (start c).args.bytes.now) (start c).args.t
 is_called c = thread_called _ _ c.before.check-thread.ensures c.if1.false
 
 check-object-requires : tie.Need-check-object-requires

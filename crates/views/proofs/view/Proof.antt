@@ -1,7 +1,8 @@
 -- `view` meets its contract: the part is the one that view_place tells.
 use borrow.Author.Rules.{rules}
 use Rattle.model.specs.State.{State, Memory}
-use Rattle.tables.specs.Contract.{state_in, memory_in}
+use Rattle.tables.specs.Decode.{state_of}
+use Rattle.tables.specs.Contract.{memory_of}
 use Prim.Native.Nat.{◌+◌, ◌≤◌}
 use native.Mathlib.Omega.{arith}
 use Rattle.views.specs.ViewLaws.{place_low, permanent_end, scratch_end, view_permanent, view_scratch}
@@ -13,10 +14,10 @@ abbrev start : tie.After-view-place → tie.Start
 start c = c.before.before.before.before.before
 
 abbrev state : tie.After-view-place → State
-state c = state_in (start c).args.words (start c).args.bytes
+state c = state_of (start c).args.words.now (start c).args.bytes.now
 
 abbrev memory : tie.After-view-place → Memory
-memory c = memory_in (start c).args.permanent (start c).args.scratch (start c).args.map (start c).args.written
+memory c = memory_of (start c).args.permanent.now (start c).args.scratch.now (start c).args.map.now (start c).args.written.now
 
 low : (c : tie.After-view-place) → c.view-place.result.from + c.view-place.result.len ≤ 16384
 low c = place_low (state c) (memory c) (start c).args.t (start c).args.p _ c.view-place.ensures (start c).requires.good

@@ -6,7 +6,8 @@ use borrow.Author.Rules.{rules}
 use Rattle.model.specs.State.{State, Memory}
 use Rattle.model.specs.Checks.{fits}
 use Rattle.model.specs.Calls as calls
-use Rattle.tables.specs.Contract.{state_in, memory_in}
+use Rattle.tables.specs.Decode.{state_of}
+use Rattle.tables.specs.Contract.{memory_of}
 use Rattle.tables.specs.AnsweredLaws.{answered_refused, answered_accepted}
 use Rattle.callers.specs.Caller.{unfit, fit}
 use Rattle.objects.specs.Fits.{fits_stores}
@@ -20,10 +21,10 @@ abbrev start : tie.Else1 → tie.Start
 start c = c.before.before.before.before.before.before
 
 abbrev state : tie.Else1 → State
-state c = state_in (start c).args.words (start c).args.bytes
+state c = state_of (start c).args.words.now (start c).args.bytes.now
 
 abbrev memory : tie.Else1 → Memory
-memory c = memory_in (start c).args.permanent (start c).args.scratch (start c).args.map (start c).args.written
+memory c = memory_of (start c).args.permanent.now (start c).args.scratch.now (start c).args.map.now (start c).args.written.now
 
 fitting : (c : tie.Else1) → fits (state c) (memory c) ≡ true
 fitting c = fit (state c) (memory c) c.before.lengths-fit.ensures c.if1.false

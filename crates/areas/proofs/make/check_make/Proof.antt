@@ -3,7 +3,7 @@ use mathlib.Core.Path.{◌≡◌, sym, ◌∙◌}
 use borrow.Author.Rules.{rules}
 use Rattle.model.specs.State.{State, is_made}
 use Rattle.model.proofs.Accepted.{Called}
-use Rattle.tables.specs.Contract.{state_in}
+use Rattle.tables.specs.Decode.{state_of}
 use Rattle.tables.specs.Laws.{made_read}
 use Rattle.callers.specs.Caller.{thread_called}
 use Rattle.areas.specs.Make.{make_not_called, make_low, make_high, make_made, make_room}
@@ -15,7 +15,7 @@ abbrev start : tie.Else1 → tie.Start
 start c = c.before.before
 
 abbrev state : tie.Else1 → State
-state c = state_in (start c).args.words (start c).args.bytes
+state c = state_of (start c).args.words.now (start c).args.bytes.now
 
 called : (c : tie.Else1) → Called (state c) (start c).args.t
 called c = thread_called _ _ c.before.check-thread.ensures c.if1.false

@@ -5,7 +5,7 @@ use Rattle.model.specs.Blocks.{room_for}
 use Rattle.model.specs.Scopes.{make_rest}
 use Rattle.model.proofs.Accepted.{MakeOk}
 use Rattle.model.proofs.KeepsScopes.{good_make}
-use Rattle.tables.specs.Contract.{state_in}
+use Rattle.tables.specs.Decode.{state_of}
 use Rattle.tables.specs.AnsweredLaws.{changed_refused, changed_accepted}
 use Rattle.areas.specs.Make.{make_passed, make_refused}
 use Rattle.areas.proofs.make.make_on.Statement.{statement}
@@ -28,7 +28,7 @@ returns-2 c =
     let a = o.args in
     let k = make_passed _ _ _ _ (sym c.before.before.before.checked2.given.1 ∙ c.before.before.before.before.before.check-make.ensures) in
     changed_accepted _ _ _ o.requires (sym k.2) refl refl c.apply-make.ensures
-    (good_make (state_in a.words a.bytes) a.t a.q a.r o.requires.good k.0)
+    (good_make (state_of a.words.now a.bytes.now) a.t a.q a.r o.requires.good k.0)
 
 pub make_on_spec : {M : Type 1} → statement M
 make_on_spec = tie.close (tie.spec (λ c κs. search rules) (λ c. search rules) (λ c. search rules) apply-make-requires returns returns-2)

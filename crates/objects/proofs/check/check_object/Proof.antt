@@ -6,7 +6,8 @@ use native.Mathlib.Omega.{arith}
 use borrow.Author.Rules.{rules}
 use borrow.Author.Tests.{not-true, not-false}
 use Rattle.model.specs.State.{State, Memory}
-use Rattle.tables.specs.Contract.{state_in, memory_of}
+use Rattle.tables.specs.Decode.{state_of}
+use Rattle.tables.specs.Contract.{memory_of}
 use Rattle.objects.specs.declared.find.Found.TheVariants.{At}
 use Rattle.objects.specs.Found.{found_of}
 use Rattle.objects.specs.Places.{at_live}
@@ -19,7 +20,7 @@ abbrev start : tie.After-lookup → tie.Start
 start c = c.before.before.before.before
 
 abbrev state : tie.After-lookup → State
-state c = state_in (start c).args.words (start c).args.bytes
+state c = state_of (start c).args.words.now (start c).args.bytes.now
 
 -- with any written map
 abbrev memory : tie.After-lookup → List ℕ → Memory

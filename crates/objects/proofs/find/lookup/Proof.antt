@@ -10,7 +10,8 @@ use Rattle.layout.specs.HandleLaws.{area_lt}
 use Rattle.model.specs.declared.Area.{Area}
 use Rattle.model.specs.State.{State, Memory, is_scope}
 use Rattle.tables.specs.Laws.{area_read}
-use Rattle.tables.specs.Contract.{state_in, memory_of}
+use Rattle.tables.specs.Decode.{state_of}
+use Rattle.tables.specs.Contract.{memory_of}
 use Rattle.objects.specs.Found.{ends_of}
 use Rattle.objects.specs.Places.{refused_as}
 use Rattle.objects.specs.Steps.{HandleRead, other_generation, past_used, word_low, word_in, bit_fits, bit_in_lem, no_bit, ends}
@@ -28,7 +29,7 @@ abbrev start : tie.After-area-at → tie.Start
 start c = c.before.before.before.before.before.before.before.before
 
 abbrev state : tie.After-area-at → State
-state c = state_in (start c).args.words (start c).args.bytes
+state c = state_of (start c).args.words.now (start c).args.bytes.now
 
 -- with any written map
 abbrev memory : tie.After-area-at → List ℕ → Memory

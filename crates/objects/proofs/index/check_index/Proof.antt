@@ -7,7 +7,8 @@ use borrow.Author.Rules.{rules}
 use Rattle.model.specs.State.{State, Memory}
 use Rattle.model.specs.Checks.{use_rest}
 use Rattle.model.proofs.Accepted.{UseOk, use_ok}
-use Rattle.tables.specs.Contract.{state_in, memory_of}
+use Rattle.tables.specs.Decode.{state_of}
+use Rattle.tables.specs.Contract.{memory_of}
 use Rattle.objects.specs.Found.{object_of}
 use Rattle.objects.specs.Checked.{checked_passed, checked_refused}
 use Rattle.layout.specs.Verdict.{passed_verdict, stopped_verdict}
@@ -21,7 +22,7 @@ abbrev start : tie.After-check-object → tie.Start
 start c = c.before.before.before.before
 
 abbrev state : tie.After-check-object → State
-state c = state_in (start c).args.words (start c).args.bytes
+state c = state_of (start c).args.words.now (start c).args.bytes.now
 
 -- with any written map
 abbrev memory : tie.After-check-object → List ℕ → Memory
