@@ -33,7 +33,7 @@ def blocks(text):
     """The file as a list of blocks of lines: each begins with its comments, then a line at column 0."""
     out, cur, body = [], [], False
     for line in text.split("\n"):
-        top = line and not line[0].isspace()
+        top = line and not line[0].isspace() and line[0] not in ")}]"
         if top and line.startswith("--"):
             if body:
                 out.append(cur)
@@ -74,8 +74,8 @@ def args_of(text):
     return out
 
 
-def clauses():
-    """The names of each function's several `ensures`, by its path."""
+def clauses(kind):
+    """The names of each function's several clauses of a kind, by its path."""
     out = {}
     for crate in os.listdir("../../crates"):
         for folder, _, files in os.walk(f"../../crates/{crate}/src"):
@@ -87,13 +87,14 @@ def clauses():
                     m = re.match(r"(?:pub )?(?:unsafe )?(?:extern \"C\" )?fn (\w+)", line)
                     if m:
                         here = f"{mod}::{m.group(1)}"
-                    m = re.match(r"\s+ensures (\w+) \{", line)
+                    m = re.match(r"\s+" + kind + r" (\w+) \{", line)
                     if m and here:
                         out.setdefault(here, []).append(m.group(1))
     return out
 
 
-CLAUSES = clauses()
+CLAUSES = clauses("ensures")
+REQUIRED = clauses("requires")
 
 
 def parameters(crate):
@@ -148,12 +149,14 @@ class Fn:
     def __init__(self, crate, path, table):
         self.crate, self.path, self.t = crate, path, table
         self.mine = CLAUSES.get(f"{crate}::{path.replace('.', '::')}")
+        self.asked = REQUIRED.get(f"{crate}::{path.replace('.', '::')}")
         self.params = PARAMETERS.get(f"{crate}::{path.replace('.', '::')}", [])
         self.callees = {}
         for old, parent, (a, b), callee, typed in table["places"]:
             if callee in CLAUSES:
                 self.callees[b] = CLAUSES[callee]
         self.goals = {norm(a): b for a, b in table["needs"]}
+        self.at = {g: q for (_, g), (_, q) in zip(table["needs"], table["asked_at"])}
         self.order = [b for _, b in table["needs"]]
         self.places = {}
         for (old, *_), new in zip(table["places"], table["places_by_name"]):
@@ -162,6 +165,13 @@ class Fn:
         for old, parent, (a, b), callee, typed in table["places"]:
             if a:
                 self.steps.setdefault(norm(a), set()).add(b)
+        self.arms = []
+        for arm in table["arms"]:
+            if arm:
+                for field, old, path in arm[2]:
+                    if path:
+                        self.arms.append((old, path, f".{arm[0]}.{field}"))
+        self.arms.sort(key=lambda a: -len(a[1]))
         self.used_places = set()
         self.left = []
 
@@ -184,6 +194,9 @@ class Fn:
     def body(self, text):
         """Steps get their new names, reached without the chain of `.before`."""
 
+        for old, path, new in self.arms:
+            at = r"(?:\.before)*\." + re.sub("[-_]", "[-_]", re.escape(old).replace(r"\-", "-")) + "".join(r"\." + re.escape(x) for x in path) + r"(?![\w-])"
+            text = re.sub(at, new, text)
         aliases = set(re.findall(r"let ([\w'-]+) = (?:[^\n]*\.)?args in", text))
         loops = set(re.findall(r"let ([\w'-]+) = (?:[^\n]*\.)?(?:loop\d*|" + "|".join(a for (a, b), *_ in self.t["loops"]) + r") in", text)) if self.t["loops"] else set()
         variables = {v for _, vs, *_ in self.t["loops"] for v in vs}
@@ -192,14 +205,18 @@ class Fn:
             chain, name = m.group(1), m.group(2)
             before = re.search(r"([\w'-]+)$", text[: m.start()])
             last = before.group(1) if before else ""
+            if not chain and re.match(r"in[-_]", last):
+                return m.group(0)
             if not chain and (last == "args" or last in aliases):
                 if re.match(r"t\d+$", name) and int(name[1:]) <= len(self.params):
                     return "." + self.params[int(name[1:]) - 1]
-                return m.group(0)
+                return m.group(0).replace("-", "_")
             if not chain and name in variables and (last in loops or re.match(r"(loop|search)", last)):
                 return m.group(0)
             if name in ("args", "requires", "lifetimes", "well_formed", "ranges", "blocks"):
                 return "." + name
+            if name in ("result", "ensures", "new", "auto", "true", "false", "invariant", "now"):
+                return m.group(0)
             if name == "pre":
                 return ".requires"
             if name == "well-formed":
@@ -230,6 +247,8 @@ class Fn:
                 m = nxt
             if not m:
                 break
+        for i, f in enumerate(self.asked or []):
+            text = re.sub(r"(?<![\w'-])(c|o|e|u|x|i|m|k|d)\.requires\." + str(i) + r"(?!\w)", r"\1.requires." + f, text)
         text = re.sub(r"(\.if-[\w-]+)\.left(?![\w-])", r"\1.false", text)
         text = re.sub(r"(\.if-[\w-]+)\.taken(?![\w-])", r"\1.true", text)
         return text
@@ -237,6 +256,59 @@ class Fn:
     def types(self, text):
         text = re.sub(r"tie\.((?:After|Else|Then|Start|In|At)[\w'-]*)((?: (?:invariant|decreases|Inv|μ)[\w-]*)*)", lambda m: self.place(m.group(1)), text)
         return text
+
+
+PLACE = r"tie\.((?:After|Else|Then|Start|In|At)[\w'-]*)(?: (?:invariant|decreases)[\w-]*)*"
+
+
+def helpers(fn, blocks_):
+    """The functions of the file over a place: those that step back to an earlier place, and the lemmas, each with its place."""
+    back, over = {}, {}
+    for b in blocks_:
+        code = [l for l in b if not l.startswith("--")]
+        if not code:
+            continue
+        m = re.match(r"(?:abbrev |pub )*(" + WORD + r") : " + PLACE + r" → " + PLACE + r"$", code[0])
+        if m:
+            back[m.group(1)] = m.group(3)
+            continue
+        m = re.match(r"(?:abbrev |pub )*(" + WORD + r") : (?:\(\w+ : )?" + PLACE + r"(?!-)", code[0])
+        if m and "Need-" not in code[0]:
+            over[m.group(1)] = m.group(2)
+    return back, over
+
+
+def rooted(fn, text, root, back):
+    """Each name for an earlier place, and each step back, becomes the root itself: the record there has every earlier step."""
+    word = r"(?<![\w.'₀-₉-])"
+    roots = re.escape(root)
+    acc = "|".join(map(re.escape, sorted(back, key=len, reverse=True))) or "(?!)"
+    names = [root]
+    while True:
+        before = text
+        r = "(?:" + "|".join(map(re.escape, names)) + ")"
+        text = re.sub(r"\(" + "(?:" + acc + r") (" + r + r")(?:\.before)*\)", lambda m: root, text)
+        text = re.sub(word + "(?:" + acc + r") (" + r + r")(?:\.before)*(?![\w.'-])", lambda m: root, text)
+        m = re.search(r"let ([\w'₀-₉-]+) = " + r + r"(?:\.before)* in\s+", text)
+        if m:
+            name = m.group(1)
+            rest = text[m.end() :]
+            rest = re.sub(word + re.escape(name) + r"(?![\w'₀-₉-])", lambda _: root, rest)
+            text = text[: m.start()] + rest
+        text = re.sub(word + re.escape(root) + r"(?:\.before)+", root, text)
+        text = re.sub(r"\(" + re.escape(root) + r"\)", root, text)
+        if text == before:
+            return text
+
+
+def lemma_calls(fn, text, root, mine, goal, over):
+    """A lemma over an earlier place takes that place of the root."""
+    for name, place in over.items():
+        new = fn.place(place)
+        if new == mine:
+            continue
+        text = re.sub(r"(?<![\w.'₀-₉-])(" + re.escape(name) + r") " + re.escape(root) + r"(?![\w'₀-₉.-])", lambda m: f"{m.group(1)} (goal.at.{goal} {root}).{new}", text)
+    return text
 
 
 def loop_args(fn, old):
@@ -274,6 +346,7 @@ def convert(fn, text):
         else:
             for a, g in zip(given, fn.order):
                 position[a] = g
+    back, over = helpers(fn, bl)
     inline = []
     if spec is not None and position:
         for a, g in zip(spec[loops:], fn.order):
@@ -338,16 +411,46 @@ def convert(fn, text):
                 else:
                     l = re.sub(r"^" + re.escape(name) + r"(?= )", new, l)
                     rest.append(l)
-            body = fn.body(fn.types("\n".join(rest)))
+            text_ = "\n".join(rest)
+            rm = re.search(r"(?m)^" + re.escape(new) + r" ([\w'₀-₉-]+)", text_)
+            if rm:
+                root = rm.group(1)
+                text_ = rooted(fn, text_, root, back)
+                text_ = lemma_calls(fn, text_, root, fn.at.get(new), new, over)
+            body = fn.body(fn.types(text_))
             if fn.mine and new.startswith("returns"):
                 body = as_record(body, fn.mine) or body
+            m = re.match(r"(\w+)-(?:\w+-)?requires", new)
+            asked = [v for k, v in REQUIRED.items() if m and k.endswith("::" + m.group(1))]
+            if asked:
+                body = as_record(body, asked[0]) or body
             body = re.sub(r"(?m)^(" + re.escape(new) + r" c) κs(?= )", r"\1", body)
             ans += comments + [f"pub {new} : goal.{new}"] + body.split("\n") + [""]
             named[name] = new
             continue
-        ans += comments + fn.body(fn.types("\n".join(code))).split("\n") + [""]
+        m = re.match(r"(?:abbrev |pub )*(" + WORD + r") :", first)
+        if m and m.group(1) in back:
+            continue
+        text_ = "\n".join(code)
+        if m and m.group(1) in over:
+            name = m.group(1)
+            rm = re.search(r"(?m)^" + re.escape(name) + r" ([\w'₀-₉-]+)(?=[^\n:]*=)", text_)
+            if rm:
+                root = rm.group(1)
+                sig = re.search(r"\((\w+) : tie", text_)
+                lines_ = text_.split("\n")
+                k = next(i for i, l in enumerate(lines_) if re.match(re.escape(name) + r" ", l) and " : " not in l.split("=")[0])
+                top, rest_ = "\n".join(lines_[:k]), "\n".join(lines_[k:])
+                mine = fn.place(over[name])
+                rest_ = lemma_calls(fn, rooted(fn, rest_, root, back), root, mine, mine, over)
+                if sig:
+                    top = lemma_calls(fn, rooted(fn, top, sig.group(1), back), sig.group(1), mine, mine, over)
+                text_ = top + "\n" + rest_
+        ans += comments + fn.body(fn.types(text_)).split("\n") + [""]
     for g, binders, body in inline:
         binders = [x for x in binders if x != "κs"]
+        if binders:
+            body = lemma_calls(fn, rooted(fn, body, binders[0], back), binders[0], fn.at.get(g), g, over)
         ans += [f"pub {g} : goal.{g}", f"{g} {' '.join(binders)} = " + fn.body(fn.types(body)), ""]
     module = f"Rattle.{fn.crate}.proofs.{fn.path}"
     uses = [l for l in uses if ".Statement.{" not in l and not re.search(r"\.Tie as tie", l)]
@@ -395,8 +498,17 @@ def main():
             body = used(inv, uses)
             with open(os.path.join(folder, "Invariants.antt"), "w") as f:
                 f.write("\n".join(body + [f"use {module}.Given as goal", ""] + inv).rstrip() + "\n")
+        text_ = "\n".join(ans)
+        turned = re.sub(r"(?<![\w.'₀-₉-])([\w'₀-₉]+\.if-not-[\w-]+\.(?:true|false))(?![\w-])", r"(ap not \1)", text_)
+        if turned != text_:
+            # a test of `!x` says today what it says of x
+            ans = turned.split("\n")
+            for module_, n in (("mathlib.Core.Bool", "not"), ("mathlib.Core.Path", "ap")):
+                if not any(re.search(r"[{ ]" + n + r"[,}]", l) for l in uses):
+                    uses.append(f"use {module_}.{{{n}}}")
         if ans or fn.left:
-            places = sorted(fn.used_places)
+            text_ = "\n".join(ans)
+            places = sorted(q for q in fn.used_places if re.search(r"[:(] ?" + re.escape(q) + r"(?=[) ]|$)", text_, re.M) or f": {q}" in text_ or f"→ {q}" in text_)
             body = head + used(ans, uses) + [f"use {module}.Goals as goal"] + ([f"use {module}.Goals.{{{', '.join(places)}}}"] if places else [])
             with open(os.path.join(folder, "Answers.antt"), "w") as f:
                 f.write("\n".join(body + [""] + [f"-- LEFT: {x}" for x in fn.left] + ans).rstrip() + "\n")

@@ -56,12 +56,10 @@ fn apply_allocate(
     data_words: u64,
 ) -> u64
     requires { Lent words.old bytes.now (memory_of permanent.old scratch.old map.old written.old) × HasRoom (state_of words.old bytes.now) area x slots data_words }
-    ensures {
-        ObjectMade result
+    ensures { ObjectMade result
         words.new bytes.now (memory_of permanent.new scratch.new map.new written.new)
         (state_of words.old bytes.now) (memory_of permanent.old scratch.old map.old written.old)
-        area slots data_words
-    }
+        area slots data_words }
 {
     let used = x.used + 1 + slots + data_words;
     let next = Area {
@@ -97,11 +95,9 @@ pub fn allocate(
     data_words: u64,
 ) -> Answer
     requires { Ready words.old bytes.now }
-    ensures {
-        Answers result (calls.allocate t slots data_words)
+    ensures { Answers result (calls.allocate t slots data_words)
         words.old bytes.now (memory_of permanent.old scratch.old map.old written.old)
-        words.new bytes.now (memory_of permanent.new scratch.new map.new written.new)
-    }
+        words.new bytes.now (memory_of permanent.new scratch.new map.new written.new) }
 {
     let status = callers::check_caller(words, bytes, permanent, scratch, map, written, t);
     if status != 0 {

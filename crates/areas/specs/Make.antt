@@ -15,7 +15,7 @@ use Rattle.model.specs.Blocks.{block_count, blocks_for, room_for, no_room}
 use Rattle.model.specs.Checks.{called}
 use Rattle.model.specs.Scopes.{make_rest, made_area, make_state}
 use Rattle.model.proofs.Accepted.{Called, MakeOk, make_ok}
-use Rattle.tables.specs.Decode.{state_of, area_record, put_area, lengths_record, used_bits_of, put_used_bits, Shaped, Holds}
+use Rattle.tables.specs.Decode.{state_of, area_record, put_area, lengths_record, used_bits_of, put_used_bits, Holds}
 use Rattle.tables.specs.Contract.{Ready}
 use Rattle.tables.specs.Laws.{area_read, lengths_read, used_bits_read, state_area}
 use Rattle.flips.specs.Flipped.{AllBits}

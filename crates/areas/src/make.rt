@@ -71,10 +71,8 @@ fn apply_make(words: &mut Words, bytes: &Bytes, t: u64, q: usize, r: u64, first:
 // After refusal 1.
 pub fn make_on(words: &mut Words, bytes: &Bytes, t: u64, q: u64, r: u64) -> Answer
     requires { Ready words.old bytes.now }
-    ensures {
-        Changes result (make_change (state_of words.old bytes.now) t q r)
-        words.old bytes.now words.new bytes.now
-    }
+    ensures { Changes result (make_change (state_of words.old bytes.now) t q r)
+        words.old bytes.now words.new bytes.now }
 {
     let checked = check_make(words, bytes, t, q, r);
     match checked {
@@ -101,11 +99,9 @@ pub fn make(
     r: u64,
 ) -> Answer
     requires { Ready words.old bytes.now }
-    ensures {
-        Answers result (calls.make t q r)
+    ensures { Answers result (calls.make t q r)
         words.old bytes.now (memory_of permanent.now scratch.now map.now written.now)
-        words.new bytes.now (memory_of permanent.now scratch.now map.now written.now)
-    }
+        words.new bytes.now (memory_of permanent.now scratch.now map.now written.now) }
 {
     let fit = callers::lengths_fit(words, bytes, permanent, scratch, map, written);
     if !fit {

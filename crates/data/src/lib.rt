@@ -22,11 +22,9 @@ pub fn write(
     word: u64,
 ) -> Answer
     requires { Ready words.now bytes.now }
-    ensures {
-        Answers result (calls.write t p q word)
+    ensures { Answers result (calls.write t p q word)
         words.now bytes.now (memory_of permanent.old scratch.old map.now written.old)
-        words.now bytes.now (memory_of permanent.new scratch.new map.now written.new)
-    }
+        words.now bytes.now (memory_of permanent.new scratch.new map.now written.new) }
 {
     let refusal = callers::check_caller(words, bytes, permanent, scratch, map, written, t);
     if refusal != 0 {
@@ -60,11 +58,9 @@ pub fn read<'a>(
     q: u64,
 ) -> Answer
     requires { Ready words.now bytes.now }
-    ensures {
-        Answers result (calls.read t p q)
+    ensures { Answers result (calls.read t p q)
         words.now bytes.now (memory_of permanent.now scratch.now map.now written.now)
-        words.now bytes.now (memory_of permanent.now scratch.now map.now written.now)
-    }
+        words.now bytes.now (memory_of permanent.now scratch.now map.now written.now) }
 {
     let refusal = callers::check_caller(words, bytes, permanent, scratch, map, written, t);
     if refusal != 0 {

@@ -8,7 +8,7 @@ use borrow.Author.Tests.{le-leb, lt-leb, lt-ltb, le-ltb, eq-eqb, ne_eqb}
 use Rattle.layout.specs.Choice.{refuse, refuse_first, hit, skip, peel}
 use Rattle.rights.specs.declared.Right.TheVariants.{Enter}
 use Rattle.model.specs.declared.Area.{Area}
-use Rattle.model.specs.State.{State, area_at, thread_at, stack_at, innermost, made_as, is_made}
+use Rattle.model.specs.State.{State, area_at, thread_at, stack_at, made_as, is_made}
 use Rattle.model.specs.Checks.{called, has_right}
 use Rattle.model.specs.Scopes.{last_generation, other_parent, generations_out, enter_rest}
 use Rattle.model.specs.Invariant.{Good}

@@ -59,10 +59,8 @@ fn check_scope(x: Area, inner: u64) -> u64
 // A started thread enters the heap or immortal memory, which only adds an entry.
 fn enter_standing(words: &mut Words, bytes: &mut Bytes, t: usize, q: u64) -> Answer
     requires { Ready words.old bytes.old × Called (state_of words.old bytes.old) t × (q < 2) }
-    ensures {
-        Changes result (enter_change (state_of words.old bytes.old) t q)
-        words.old bytes.old words.new bytes.new
-    }
+    ensures { Changes result (enter_change (state_of words.old bytes.old) t q)
+        words.old bytes.old words.new bytes.new }
 {
     let refusal = check_there(words, bytes, t, q);
     if refusal != 0 {
@@ -84,10 +82,8 @@ fn enter_standing(words: &mut Words, bytes: &mut Bytes, t: usize, q: u64) -> Ans
 // the other checks: a register fewer is saved.
 fn enter_scope(words: &mut Words, bytes: &mut Bytes, t: usize, q: u64) -> Answer
     requires { Ready words.old bytes.old × Called (state_of words.old bytes.old) t × (2 ≤ q) × (q < 64) }
-    ensures {
-        Changes result (enter_change (state_of words.old bytes.old) t q)
-        words.old bytes.old words.new bytes.new
-    }
+    ensures { Changes result (enter_change (state_of words.old bytes.old) t q)
+        words.old bytes.old words.new bytes.new }
 {
     let refusal = check_there(words, bytes, t, q);
     if refusal != 0 {
@@ -109,10 +105,8 @@ fn enter_scope(words: &mut Words, bytes: &mut Bytes, t: usize, q: u64) -> Answer
 // whether q is one is tested once.
 pub fn enter_on(words: &mut Words, bytes: &mut Bytes, t: u64, q: u64) -> Answer
     requires { Ready words.old bytes.old }
-    ensures {
-        Changes result (enter_change (state_of words.old bytes.old) t q)
-        words.old bytes.old words.new bytes.new
-    }
+    ensures { Changes result (enter_change (state_of words.old bytes.old) t q)
+        words.old bytes.old words.new bytes.new }
 {
     let refusal = callers::check_thread(words, bytes, t);
     if refusal != 0 {
@@ -144,11 +138,9 @@ pub fn enter(
     q: u64,
 ) -> Answer
     requires { Ready words.old bytes.old }
-    ensures {
-        Answers result (calls.enter t q)
+    ensures { Answers result (calls.enter t q)
         words.old bytes.old (memory_of permanent.now scratch.now map.now written.now)
-        words.new bytes.new (memory_of permanent.now scratch.now map.now written.now)
-    }
+        words.new bytes.new (memory_of permanent.now scratch.now map.now written.now) }
 {
     let fit = callers::lengths_fit(words, bytes, permanent, scratch, map, written);
     if !fit {

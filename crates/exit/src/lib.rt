@@ -110,10 +110,8 @@ fn apply_exit(words: &mut Words, bytes: &Bytes, t: usize) -> u64
 // After refusal 1.
 pub fn exit_on(words: &mut Words, bytes: &Bytes, t: u64) -> Answer
     requires { Ready words.old bytes.now }
-    ensures {
-        Changes result (exit_change (state_of words.old bytes.now) t)
-        words.old bytes.now words.new bytes.now
-    }
+    ensures { Changes result (exit_change (state_of words.old bytes.now) t)
+        words.old bytes.now words.new bytes.now }
 {
     let status = check_exit(words, bytes, t);
     if status != 0 {
@@ -135,11 +133,9 @@ pub fn exit(
     t: u64,
 ) -> Answer
     requires { Ready words.old bytes.now }
-    ensures {
-        Answers result (calls.exit t)
+    ensures { Answers result (calls.exit t)
         words.old bytes.now (memory_of permanent.now scratch.now map.now written.now)
-        words.new bytes.now (memory_of permanent.now scratch.now map.now written.now)
-    }
+        words.new bytes.now (memory_of permanent.now scratch.now map.now written.now) }
 {
     let fit = callers::lengths_fit(words, bytes, permanent, scratch, map, written);
     if !fit {

@@ -120,10 +120,8 @@ pub fn start_helper_on(
     helper: u64,
 ) -> Answer
     requires { Ready words.old bytes.old }
-    ensures {
-        Changes result (helper_change (state_of words.old bytes.old) t kind helper)
-        words.old bytes.old words.new bytes.new
-    }
+    ensures { Changes result (helper_change (state_of words.old bytes.old) t kind helper)
+        words.old bytes.old words.new bytes.new }
 {
     let status = check_helper(words, bytes, t, kind, helper);
     if status == 0 {
@@ -144,11 +142,9 @@ pub fn start_helper(
     helper: u64,
 ) -> Answer
     requires { Ready words.old bytes.old }
-    ensures {
-        Answers result (calls.start_helper t kind helper)
+    ensures { Answers result (calls.start_helper t kind helper)
         words.old bytes.old (memory_of permanent.now scratch.now map.now written.now)
-        words.new bytes.new (memory_of permanent.now scratch.now map.now written.now)
-    }
+        words.new bytes.new (memory_of permanent.now scratch.now map.now written.now) }
 {
     let fit = callers::lengths_fit(words, bytes, permanent, scratch, map, written);
     if !fit {

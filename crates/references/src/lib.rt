@@ -105,11 +105,9 @@ pub fn store(
     target: u64,
 ) -> Answer
     requires { Ready words.now bytes.now }
-    ensures {
-        Answers result (calls.store t p q target)
+    ensures { Answers result (calls.store t p q target)
         words.now bytes.now (memory_of permanent.old scratch.old map.now written.now)
-        words.now bytes.now (memory_of permanent.new scratch.new map.now written.now)
-    }
+        words.now bytes.now (memory_of permanent.new scratch.new map.now written.now) }
 {
     let refusal = callers::check_caller(words, bytes, permanent, scratch, map, written, t);
     if refusal != 0 {
@@ -145,11 +143,9 @@ pub fn load<'a>(
     q: u64,
 ) -> Answer
     requires { Ready words.now bytes.now }
-    ensures {
-        Answers result (calls.load t p q)
+    ensures { Answers result (calls.load t p q)
         words.now bytes.now (memory_of permanent.now scratch.now map.now written.now)
-        words.now bytes.now (memory_of permanent.now scratch.now map.now written.now)
-    }
+        words.now bytes.now (memory_of permanent.now scratch.now map.now written.now) }
 {
     let refusal = callers::check_caller(words, bytes, permanent, scratch, map, written, t);
     if refusal != 0 {

@@ -54,10 +54,8 @@ fn apply_remove(words: &mut Words, bytes: &Bytes, t: u64, q: usize)
 // After refusal 1.
 pub fn remove_on(words: &mut Words, bytes: &Bytes, t: u64, q: u64) -> Answer
     requires { Ready words.old bytes.now }
-    ensures {
-        Changes result (remove_change (state_of words.old bytes.now) t q)
-        words.old bytes.now words.new bytes.now
-    }
+    ensures { Changes result (remove_change (state_of words.old bytes.now) t q)
+        words.old bytes.now words.new bytes.now }
 {
     let status = check_remove(words, bytes, t, q);
     if status == 0 {
@@ -77,11 +75,9 @@ pub fn remove(
     q: u64,
 ) -> Answer
     requires { Ready words.old bytes.now }
-    ensures {
-        Answers result (calls.remove t q)
+    ensures { Answers result (calls.remove t q)
         words.old bytes.now (memory_of permanent.now scratch.now map.now written.now)
-        words.new bytes.now (memory_of permanent.now scratch.now map.now written.now)
-    }
+        words.new bytes.now (memory_of permanent.now scratch.now map.now written.now) }
 {
     let fit = callers::lengths_fit(words, bytes, permanent, scratch, map, written);
     if !fit {

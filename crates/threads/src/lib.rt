@@ -45,10 +45,8 @@ pub fn check_start(words: &Words, bytes: &Bytes, t: u64, kind: u64) -> u64
 // After refusal 1.
 pub fn start_on(words: &mut Words, bytes: &Bytes, t: u64, kind: u64) -> Answer
     requires { Ready words.old bytes.now }
-    ensures {
-        Changes result (start_change (state_of words.old bytes.now) t kind)
-        words.old bytes.now words.new bytes.now
-    }
+    ensures { Changes result (start_change (state_of words.old bytes.now) t kind)
+        words.old bytes.now words.new bytes.now }
 {
     let status = check_start(words, bytes, t, kind);
     if status == 0 {
@@ -68,11 +66,9 @@ pub fn start(
     kind: u64,
 ) -> Answer
     requires { Ready words.old bytes.now }
-    ensures {
-        Answers result (calls.start t kind)
+    ensures { Answers result (calls.start t kind)
         words.old bytes.now (memory_of permanent.now scratch.now map.now written.now)
-        words.new bytes.now (memory_of permanent.now scratch.now map.now written.now)
-    }
+        words.new bytes.now (memory_of permanent.now scratch.now map.now written.now) }
 {
     let fit = callers::lengths_fit(words, bytes, permanent, scratch, map, written);
     if !fit {
@@ -125,11 +121,9 @@ pub fn end(
     t: u64,
 ) -> Answer
     requires { Ready words.old bytes.now }
-    ensures {
-        Answers result (calls.end t)
+    ensures { Answers result (calls.end t)
         words.old bytes.now (memory_of permanent.now scratch.now map.now written.now)
-        words.new bytes.now (memory_of permanent.now scratch.now map.now written.now)
-    }
+        words.new bytes.now (memory_of permanent.now scratch.now map.now written.now) }
 {
     let fits = callers::lengths_fit(words, bytes, permanent, scratch, map, written);
     if !fits {

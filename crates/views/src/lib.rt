@@ -111,11 +111,9 @@ pub fn view<'a>(
     p: u64,
 ) -> &'a [u64]
     requires { Ready words.now bytes.now }
-    ensures answer {
-        Replies (view_reply result.now) (calls.view t p)
+    ensures answer { Replies (view_reply result.now) (calls.view t p)
         words.now bytes.now (memory_of permanent.now scratch.now map.now written.now)
-        words.now bytes.now (memory_of permanent.now scratch.now map.now written.now)
-    }
+        words.now bytes.now (memory_of permanent.now scratch.now map.now written.now) }
     ensures place { PlacedAt result.ref_ptr permanent.entry.ref_ptr scratch.entry.ref_ptr (state_of words.now bytes.now) (memory_of permanent.now scratch.now map.now written.now) t p }
 {
     let place = view_place(words, bytes, permanent, scratch, map, written, t, p);
@@ -139,11 +137,9 @@ pub fn view_status<'a>(
     p: u64,
 ) -> Answer
     requires { Ready words.now bytes.now }
-    ensures {
-        Answers result (calls.view_status t p)
+    ensures { Answers result (calls.view_status t p)
         words.now bytes.now (memory_of permanent.now scratch.now map.now written.now)
-        words.now bytes.now (memory_of permanent.now scratch.now map.now written.now)
-    }
+        words.now bytes.now (memory_of permanent.now scratch.now map.now written.now) }
 {
     let fit = callers::lengths_fit(words, bytes, permanent, scratch, map, written);
     if !fit {

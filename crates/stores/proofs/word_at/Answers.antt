@@ -16,7 +16,7 @@ pub offset_bounds-scratch-at : goal.offset_bounds-scratch-at
 offset_bounds-scratch-at c = let h = in_scratch c in search rules
 
 pub bounds-scratch-at : goal.bounds-scratch-at
-bounds-scratch-at c = in_scratch c.before
+bounds-scratch-at c = in_scratch (goal.at.bounds-scratch-at c).Then-area-ge2
 
 pub returns-then-area-ge2 : goal.returns-then-area-ge2
 returns-then-area-ge2 c = rw (le-leb 2 c.args.area c.if-area-ge2.true)
@@ -25,7 +25,7 @@ pub offset_bounds-permanent-at : goal.offset_bounds-permanent-at
 offset_bounds-permanent-at c = let h = in_permanent c in search rules
 
 pub bounds-permanent-at : goal.bounds-permanent-at
-bounds-permanent-at c = in_permanent c.before
+bounds-permanent-at c = in_permanent (goal.at.bounds-permanent-at c).Else-area-ge2
 
 pub returns : goal.returns
 returns c = rw (lt-leb 2 c.args.area c.if-area-ge2.false)

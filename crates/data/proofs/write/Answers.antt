@@ -1,0 +1,69 @@
+-- `write` meets its contract: refused by the caller, by the object or its words, or accepted.
+use mathlib.Core.Path.{◌≡◌, refl, sym, ◌∙◌}
+use Rattle.model.specs.State.{State, Memory}
+use Rattle.model.specs.Data.{data_rest}
+use Rattle.model.specs.Calls as calls
+use Rattle.model.proofs.Accepted.{Admitted}
+use Rattle.tables.specs.Decode.{state_of}
+use Rattle.tables.specs.Contract.{memory_of}
+use Rattle.tables.specs.AnsweredLaws.{answered_refused, answered_accepted}
+use Rattle.callers.specs.Caller.{caller_refused, caller_admitted, admit_rest}
+use Rattle.objects.specs.declared.index.Part.TheVariants.{Data}
+use Rattle.objects.specs.Fits.{fits_stores}
+use Rattle.layout.specs.Verdict.{verdict_passed, verdict_stopped}
+use Rattle.objects.specs.Indexed.{word_of, indexed_cases}
+use Rattle.objects.specs.Effects.{word_in}
+use Rattle.data.specs.Written.{written_in, written_word}
+use Rattle.data.proofs.write.Goals as goal
+use Rattle.data.proofs.write.Goals.{Else-refusal-ne0, In-At}
+
+abbrev state : Else-refusal-ne0 → State
+state c = state_of c.args.words.now c.args.bytes.now
+
+abbrev memory : Else-refusal-ne0 → Memory
+memory c = memory_of c.args.permanent.now c.args.scratch.now c.args.map.now c.args.written.now
+
+abbrev call : Else-refusal-ne0 → calls.Call
+call c = calls.write c.args.t c.args.p c.args.q c.args.word
+
+called : (c : Else-refusal-ne0) → Admitted (state c) (memory c) c.args.t
+called c = caller_admitted (state c) (memory c) c.args.t c.check_caller-refusal.ensures c.if-refusal-ne0.false
+
+found : (c : In-At) → (data_rest (state (goal.at.In-At c).Else-refusal-ne0) (memory (goal.at.In-At c).Else-refusal-ne0) c.args.t c.args.p c.args.q 0 ≡ 0) × (c.in-At.w ≡ word_of Data (state (goal.at.In-At c).Else-refusal-ne0) (memory (goal.at.In-At c).Else-refusal-ne0) c.args.p c.args.q)
+found c = verdict_passed indexed_cases _ _ (sym c.in-At.is ∙ c.check_index.ensures _)
+
+pub returns-then-refusal-ne0 : goal.returns-then-refusal-ne0
+returns-then-refusal-ne0 c =
+    answered_refused _ _ _ (calls.write _ _ _ _) c.requires (caller_refused _ _ _ c.check_caller-refusal.ensures c.if-refusal-ne0.true _) c.if-refusal-ne0.true
+
+pub check_index-requires : goal.check_index-requires
+check_index-requires c =
+    (c.requires, fits_stores _ _ (called c).supplied, (called c).called)
+
+pub put_word-requires : goal.put_word-requires
+put_word-requires c =
+    word_in Data (state (goal.at.put_word-requires c).Else-refusal-ne0) (memory (goal.at.put_word-requires c).Else-refusal-ne0) _ _ _ (found (goal.at.put_word-requires c).In-At).1 c.requires.good (fits_stores _ _ (called (goal.at.put_word-requires c).Else-refusal-ne0).supplied) _ (found (goal.at.put_word-requires c).In-At).0
+
+pub set_bit-requires : goal.set_bit-requires
+set_bit-requires c =
+    (refl, written_in (state (goal.at.set_bit-requires c).Else-refusal-ne0) (memory (goal.at.set_bit-requires c).Else-refusal-ne0) _ _ _ _ (found (goal.at.set_bit-requires c).In-At).1 (found (goal.at.set_bit-requires c).In-At).0 c.requires.good (called (goal.at.set_bit-requires c).Else-refusal-ne0).supplied)
+
+pub returns-in-Refused : goal.returns-in-Refused
+returns-in-Refused c =
+    let e = verdict_stopped indexed_cases _ _ (sym c.in-Refused.is ∙ c.check_index.ensures _) in
+    answered_refused _ _ (memory (goal.at.returns-in-Refused c).Else-refusal-ne0) (call (goal.at.returns-in-Refused c).Else-refusal-ne0) c.requires (e.0 ∙ sym (admit_rest _ _ _ (called (goal.at.returns-in-Refused c).Else-refusal-ne0) _)) e.1
+
+pub returns-in-At : goal.returns-in-At
+returns-in-At c =
+    let y = c.requires in
+    answered_accepted _ _ (memory (goal.at.returns-in-At c).Else-refusal-ne0) (call (goal.at.returns-in-At c).Else-refusal-ne0) y (sym (admit_rest _ _ _ (called (goal.at.returns-in-At c).Else-refusal-ne0) _ ∙ (found (goal.at.returns-in-At c).In-At).0)) refl refl refl (record { sized = y.sized; state = refl })
+    (written_word (state (goal.at.returns-in-At c).Else-refusal-ne0) (memory (goal.at.returns-in-At c).Else-refusal-ne0) c.args.t _ _ _ (found (goal.at.returns-in-At c).In-At).1 _ c.put_word.ensures c.set_bit.ensures)
+
+pub shape_of-permanent-in-At : goal.shape_of-permanent-in-At
+shape_of-permanent-in-At c = c.put_word.auto.permanent
+
+pub shape_of-scratch-in-At : goal.shape_of-scratch-in-At
+shape_of-scratch-in-At c = c.put_word.auto.scratch
+
+pub shape_of-written-in-At : goal.shape_of-written-in-At
+shape_of-written-in-At c = c.set_bit.auto.map

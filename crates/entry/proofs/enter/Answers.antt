@@ -1,0 +1,16 @@
+-- `entry::enter` meets its contract. Assumes nothing.
+use mathlib.Core.Path.{refl}
+use borrow.Author.Rules.{rules}
+use Rattle.tables.specs.AnsweredLaws.{unfit_answered, fit_answered}
+use Rattle.callers.specs.Caller.{unfit, fit}
+use mathlib.Core.Bool.{not}
+use mathlib.Core.Path.{ap}
+use Rattle.entry.proofs.enter.Goals as goal
+
+pub returns-then-not-fit : goal.returns-then-not-fit
+returns-then-not-fit c =
+    unfit_answered _ _ _ _ _ refl (search rules) (unfit _ _ c.lengths_fit-fit.ensures (ap not c.if-not-fit.true))
+
+pub returns : goal.returns
+returns c =
+    fit_answered _ _ _ _ _ refl (fit _ _ c.lengths_fit-fit.ensures (ap not c.if-not-fit.false)) c.enter_on.ensures

@@ -1,0 +1,12 @@
+use mathlib.Core.Path.{◌≡◌}
+use Prim.Native.Nat.{◌-◌, ◌≤◌}
+use Rattle.layout.specs.Below.{some_below}
+use Rattle.model.specs.Checks.{is_started}
+use Rattle.tables.specs.Decode.{state_of}
+use Rattle.loading.proofs.any_started.Given as goal
+
+abbrev pub invariant-loop-t : goal.invariant-loop-t
+invariant-loop-t l = (l.t ≤ 16) × (l.some ≡ some_below (is_started (state_of l.words l.bytes)) l.t)
+
+abbrev pub decreases-loop-t : goal.decreases-loop-t
+decreases-loop-t l = 16 - l.t
