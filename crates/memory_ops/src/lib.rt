@@ -23,11 +23,9 @@ pub fn carry_memory(
     r: u64,
 ) -> Answer
     requires { Ready words.old bytes.now }
-    ensures {
-        Answers result (call_of (Op.Memory op) t p q r)
+    ensures { Answers result (call_of (Op.Memory op) t p q r)
         words.old bytes.now (memory_of permanent.old scratch.old map.old written.old)
-        words.new bytes.now (memory_of permanent.new scratch.new map.new written.new)
-    }
+        words.new bytes.now (memory_of permanent.new scratch.new map.new written.new) }
 {
     match op {
         MemoryOp::Allocate => allocation::allocate(

@@ -23,11 +23,9 @@ pub fn carry_question<'a>(
     r: u64,
 ) -> Answer
     requires { Ready words.now bytes.now }
-    ensures {
-        Answers result (call_of (Op.Question op) t p q r)
+    ensures { Answers result (call_of (Op.Question op) t p q r)
         words.now bytes.now (memory_of permanent.now scratch.now map.now written.now)
-        words.now bytes.now (memory_of permanent.now scratch.now map.now written.now)
-    }
+        words.now bytes.now (memory_of permanent.now scratch.now map.now written.now) }
 {
     match op {
         QuestionOp::Load => references::load(

@@ -23,11 +23,9 @@ pub fn carry_out(
     r: u64,
 ) -> Answer
     requires { Ready words.old bytes.old }
-    ensures {
-        Answers result (call_of op t p q r)
+    ensures { Answers result (call_of op t p q r)
         words.old bytes.old (memory_of permanent.old scratch.old map.old written.old)
-        words.new bytes.new (memory_of permanent.new scratch.new map.new written.new)
-    }
+        words.new bytes.new (memory_of permanent.new scratch.new map.new written.new) }
 {
     match op {
         Op::State(o) => state_ops::carry_state(

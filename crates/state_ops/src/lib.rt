@@ -23,11 +23,9 @@ pub fn carry_state(
     r: u64,
 ) -> Answer
     requires { Ready words.old bytes.old }
-    ensures {
-        Answers result (call_of (Op.State op) t p q r)
+    ensures { Answers result (call_of (Op.State op) t p q r)
         words.old bytes.old (memory_of permanent.now scratch.now map.now written.now)
-        words.new bytes.new (memory_of permanent.now scratch.now map.now written.now)
-    }
+        words.new bytes.new (memory_of permanent.now scratch.now map.now written.now) }
 {
     match op {
         StateOp::Start => threads::start(words, bytes, permanent, scratch, map, written, t, p),
