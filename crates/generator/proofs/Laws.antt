@@ -59,13 +59,13 @@ class_put l i n p q s t =
     rw (p, q, s, t, x, y, z) refl
 
 -- a class more behind some
-text_more : (l : List ℕ) (i : ℕ) (ns : List ℕ) (n : ℕ)
+text_more : (ns l : List ℕ) (i n : ℕ)
     → sets (sets l i (text_of ns)) (i + length ns * 4) (text_of (n ∷ [])) ≡ sets l i (text_of (ns ++ (n ∷ [])))
 unfolding text_of
-text_more l i [] n = let z : i + 0 * 4 ≡ i = omega arith in rw z refl
-text_more l i (m ∷ ns) n =
+text_more [] l i n = let z : i + 0 * 4 ≡ i = omega arith in rw z refl
+text_more (m ∷ ns) l i n =
     let z : i + suc (length ns) * 4 ≡ suc (suc (suc (suc i))) + length ns * 4 = omega arith in
-    rw z (text_more _ (suc (suc (suc (suc i)))) ns n)
+    rw z (text_more ns _ (suc (suc (suc (suc i)))) n)
 
 -- zeros, with the digits of the first g classes of an input
 unfoldable pub filled : List ℕ → ℕ → List ℕ
@@ -86,7 +86,7 @@ module _ (l : List ℕ) where
   unfolding filled values_of places
   filled_more g h =
       let z : 0 + length (take g (values_of l)) * 4 ≡ g * 4 = omega (arith, length-take-le g (values_of l) (omega arith)) in
-      rw (← z, next_value g h) (text_more (replicate table_size 0) 0 (take g (values_of l)) _)
+      rw (← z, next_value g h) (text_more (take g (values_of l)) (replicate table_size 0) 0 _)
 
   pub filled_all : filled l class_count ≡ text_of (values_of l)
   unfolding filled text_of values_of places
