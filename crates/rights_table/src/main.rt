@@ -6,42 +6,43 @@
 // prints for the input that `answer` is given.
 //
 // What is not proved, and has to be read: the bodies of the two functions that call the system,
-// `read_more` and `write_digits`, since no contract says which bytes `read` gave and `write` took;
-// and in `run`, that the input to answer is all that was read.
+// `read_more` and `write_digits`, since no contract says which bytes `read` gave and `write_all` took;
+// and in `run`, that the input to answer is all that was read. By their types, `read_input` can write
+// nothing to standard output, and `answer` reads nothing: neither is given the handle for it.
 #![tactic(auto)]
 
 ghost use Rattle.std.specs.Prelude.{◌≡◌, ◌≤◌, length, take};
-ghost use Rattle.io.specs.Counts.{IsPrefixLen};
+ghost use Rattle.rights_table.specs.Counts.{IsPrefixLen};
 ghost use Rattle.generator.specs.Generator.{generated};
 
-use libc::{STDERR_FILENO, STDIN_FILENO, STDOUT_FILENO};
+use std::env::FillError;
+use std::io::Read;
+use std::rt::{Env, Stderr, Stdin, Stdout};
 
 // One more read, behind the first n bytes of the input: how many bytes there are now. At the end of
 // standard input they are n, as before. If it cannot be read, standard error says so, and there are
 // none; for these nothing is printed.
-fn read_more(input: &mut [u8], n: usize) -> usize
+fn read_more(mut stdin: Stdin, stderr: Stderr, input: &mut [u8], n: usize) -> usize
     requires { n ≤ length input.old }
     ensures counted { IsPrefixLen result input.new }
     ensures kept { take n input.new ≡ take n input.old }
 {
-    let got = libc::read(STDIN_FILENO, &mut input[n..]);
-    if got < 0 {
-        io::write_all(
-            STDERR_FILENO,
-            b"rights_table: standard input cannot be read\n",
-        );
-        return 0;
+    match stdin.read(&mut input[n..]) {
+        Ok(more) => n + more,
+        Err(_) => {
+            let _ = stderr.eprintln("rights_table: standard input cannot be read");
+            0
+        }
     }
-    n + io::count(got, &input[n..])
 }
 
 // Reads until the input is full or a read adds nothing: how many bytes there are then.
-fn read_input(input: &mut [u8]) -> usize
+fn read_input(stdin: Stdin, stderr: Stderr, input: &mut [u8]) -> usize
     ensures { IsPrefixLen result input.new }
 {
     let mut n = 0;
     while n < input.len() {
-        let total = read_more(input, n);
+        let total = read_more(stdin, stderr, input, n);
         if total <= n {
             return total;
         }
@@ -52,48 +53,44 @@ fn read_input(input: &mut [u8]) -> usize
 
 // Writes what is generated from an input, which only the contract looks at. If not all of it is
 // written, standard error says so.
-fn write_digits(digits: &[u8], input: &[u8])
+fn write_digits(stdout: Stdout, stderr: Stderr, digits: &[u8], input: &[u8])
     requires { digits.now ≡ generated input.now }
 {
-    if !io::write_all(STDOUT_FILENO, digits) {
-        io::write_all(
-            STDERR_FILENO,
-            b"rights_table: the digits cannot be written\n",
-        );
+    if stdout.write_all(digits).is_err() {
+        let _ = stderr.eprintln("rights_table: the digits cannot be written");
     }
 }
 
 // Writes the digits of a table, or nothing if the input is no source of one.
-fn answer(input: &[u8]) {
+fn answer(stdout: Stdout, stderr: Stderr, input: &[u8]) {
     let made = generator::generate(input);
     let digits = made.digits;
     let len = made.len;
     let all: &[u8] = &digits;
-    write_digits(&all[..len], input);
+    write_digits(stdout, stderr, &all[..len], input);
 }
 
 // Whether the program was given arguments, which it refuses on standard error. The first of those that
 // the system counts is its own name.
-fn refuses_arguments() -> bool {
-    if os::arg_count() <= 1 {
+fn refuses_arguments(rt: HostRuntime) -> bool {
+    if let Err(FillError::NotPresent) = rt.arg(1, &mut []) {
         return false;
     }
-    io::write_all(
-        STDERR_FILENO,
-        b"rights_table: it takes no arguments; the lines of a table are read from standard input (README.md, Rights)\n",
+    let _ = rt.stderr().eprintln(
+        "rights_table: it takes no arguments; the lines of a table are read from standard input (README.md, Rights)",
     );
     true
 }
 
 // A source has 12 bytes at most, so 13 show that an input is longer.
-fn run() {
+fn run(rt: HostRuntime) {
     let mut input = [0u8; 13];
-    let n = read_input(&mut input);
-    answer(&input[..n]);
+    let n = read_input(rt.stdin(), rt.stderr(), &mut input);
+    answer(rt.stdout(), rt.stderr(), &input[..n]);
 }
 
-fn main() {
-    if !refuses_arguments() {
-        run();
+fn main(rt: HostRuntime) {
+    if !refuses_arguments(rt) {
+        run(rt);
     }
 }

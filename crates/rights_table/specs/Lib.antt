@@ -1,0 +1,2 @@
+-- How much of the input was read.
+pub mod Counts
