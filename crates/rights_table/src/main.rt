@@ -27,13 +27,11 @@ fn read_more(mut stdin: Stdin, stderr: Stderr, input: &mut [u8], n: usize) -> us
     ensures counted { IsPrefixLen result input.new }
     ensures kept { take n input.new ≡ take n input.old }
 {
-    match stdin.read(&mut input[n..]) {
-        Ok(more) => n + more,
-        Err(_) => {
-            let _ = stderr.eprintln("rights_table: standard input cannot be read");
-            0
-        }
-    }
+    let Ok(more) = stdin.read(&mut input[n..]) else {
+        let _ = stderr.eprintln("rights_table: standard input cannot be read");
+        return 0;
+    };
+    n + more
 }
 
 // Reads until the input is full or a read adds nothing: how many bytes there are then.
