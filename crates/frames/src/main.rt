@@ -9,8 +9,8 @@
 //
 // What is not proved, and has to be read: the bodies of the two functions that call the system, as is
 // said in `rounds`; and that no function here changes `steps` or the input, but by the calls of
-// `rounds`. None can call the system by itself, since this crate names none of `io`, `libc` and
-// `os` (docs/DECISIONS.md, 51).
+// `rounds`. None but `main` can call the system by itself: only it is given the runtime, and the
+// `Streams` that the others are given are used by `rounds` alone (docs/DECISIONS.md, 51).
 #![tactic(auto)]
 
 ghost use Rattle.std.specs.Prelude.{◌≡◌, ◌*◌, ◌≤◌, length, replicate};
@@ -19,7 +19,7 @@ ghost use Rattle.line_answers.specs.Output.{first_world};
 ghost use Rattle.line_answers.specs.Answered.{core, Represents};
 ghost use Rattle.frames.specs.Progress.{Continues, Ran};
 
-use rounds::Output;
+use rounds::{Output, Streams};
 use tables::{Bytes, Words};
 
 // How a run ended: how many bytes the last read gave, how many steps were left before and after
@@ -45,6 +45,7 @@ fn goes_on(n: usize, steps: usize) -> bool
 // Round after round, and then what is left, from the first world on. A proved loop has to end, and
 // nothing says that the input does, so the steps are counted down from a number that no run uses up.
 fn answer_all(
+    streams: Streams,
     words: &mut Words,
     bytes: &mut Bytes,
     permanent: &mut [u64],
@@ -56,12 +57,10 @@ fn answer_all(
 ) -> Ended
     requires lent { (Ready words.old bytes.old) × (length input.old ≡ 16384) × (19 * length input.old ≤ length output.old) }
     requires first { Represents (core words.old bytes.old permanent.old scratch.old map.old written.old) first_world }
-    ensures {
-        Ran
+    ensures { Ran
         (core words.old bytes.old permanent.old scratch.old map.old written.old)
         (core words.new bytes.new permanent.new scratch.new map.new written.new)
-        input.new output.new result
-    }
+        input.new output.new result }
 {
     let mut line = [0u8; 40];
     let mut len = 0;
@@ -69,10 +68,10 @@ fn answer_all(
     let mut steps = usize::MAX;
     let mut more = true;
     while more {
-        n = rounds::read_chunk(input, &mut steps);
+        n = rounds::read_chunk(streams, input, &mut steps);
         let fed = rounds::answer_chunk(
-            words, bytes, permanent, scratch, map, written, &mut line, len, input, n, output,
-            &mut steps,
+            streams, words, bytes, permanent, scratch, map, written, &mut line, len, input, n,
+            output, &mut steps,
         );
         len = fed.len;
         more = goes_on(n, steps);
@@ -87,7 +86,7 @@ fn answer_all(
         };
     }
     let sent = rounds::answer_rest(
-        words, bytes, permanent, scratch, map, written, &line, len, output, &mut steps,
+        streams, words, bytes, permanent, scratch, map, written, &line, len, output, &mut steps,
     );
     Ended {
         n,
@@ -137,7 +136,7 @@ fn written_map() -> [u64; 96]
 }
 
 // The whole run, over buffers of its own.
-fn run() {
+fn run(streams: Streams) {
     let mut permanent = permanent_store();
     let mut scratch = scratch_store();
     let mut map = start_map();
@@ -148,6 +147,7 @@ fn run() {
     let mut input = input_buffer();
     let mut output = output_buffer();
     answer_all(
+        streams,
         &mut words,
         &mut bytes,
         &mut permanent,
@@ -159,8 +159,8 @@ fn run() {
     );
 }
 
-fn main() {
-    if !rounds::refuses_arguments() {
-        run();
+fn main(rt: HostRuntime) {
+    if !rounds::refuses_arguments(rt) {
+        run(Streams::of(rt));
     }
 }

@@ -1,2 +1,3 @@
--- What a read and a write take.
+-- How much was read and is written, and what that takes.
+pub mod Counts
 pub mod Steps

@@ -8,66 +8,90 @@
 //
 // What is not proved, and has to be read: the bodies of the two functions that call the system,
 // `read_chunk` and `write_answers`, beyond their numbers of bytes and steps, since no contract says
-// which bytes `read` gave and `write` took; and that no other function calls `io`, `libc` or `os`, or
-// changes `steps` (docs/DECISIONS.md, 51), but `refuses_arguments`, which is called before anything is
-// read. None but `read_chunk` can change the input, by its type.
+// which bytes `read` gave and `write_all` took; and that no other function uses the `Streams` that it
+// is given but to hand them to `write_answers`, or changes `steps` (docs/DECISIONS.md, 51), but
+// `refuses_arguments`, which is called before anything is read. None but `read_chunk` can change the
+// input, by its type.
 #![tactic(auto)]
 
 ghost use Rattle.std.specs.Prelude.{◌≡◌, ◌*◌, ◌≤◌, ◌<◌, length, take};
-ghost use Rattle.io.specs.Counts.{IsPrefixLen};
 ghost use Rattle.tables.specs.Contract.{Ready};
+ghost use Rattle.rounds.specs.Counts.{IsPrefixLen};
 ghost use Rattle.rounds.specs.Steps.{Read, Wrote};
 ghost use Rattle.line_answers.specs.Answered.{core};
 ghost use Rattle.reader.specs.Held.{Feeds, Finishes, held};
 
-use libc::{STDERR_FILENO, STDIN_FILENO, STDOUT_FILENO};
 use lines::line::Text;
 use reader::feed::Fed;
+use std::env::FillError;
+use std::io::Read;
+use std::rt::{Env, Stderr, Stdin, Stdout};
 use tables::{Bytes, Words};
 
 // Room for the answers to a chunk. No other buffer has this type, here or in `frames`, so what is
 // written is the start of this one.
 pub type Output = [u8; 311296];
 
+// The three standard streams, as a run is lent them. Their fields are private, so whoever holds them
+// can read and write by the functions below alone.
+#[derive(Clone, Copy)]
+pub struct Streams {
+    stdin: Stdin,
+    stdout: Stdout,
+    stderr: Stderr,
+}
+
+impl Streams {
+    // Those of the process.
+    pub fn of(rt: HostRuntime) -> Streams {
+        Streams {
+            stdin: rt.stdin(),
+            stdout: rt.stdout(),
+            stderr: rt.stderr(),
+        }
+    }
+}
+
 // Whether the program was given arguments, which it refuses on standard error. The first of those that
 // the system counts is its own name.
-pub fn refuses_arguments() -> bool {
-    if os::arg_count() <= 1 {
+pub fn refuses_arguments(rt: HostRuntime) -> bool {
+    if let Err(FillError::NotPresent) = rt.arg(1, &mut []) {
         return false;
     }
-    io::write_all(
-        STDERR_FILENO,
-        b"frames: it takes no arguments; frames are read from standard input (README.md, Frames)\n",
+    let _ = rt.stderr().eprintln(
+        "frames: it takes no arguments; frames are read from standard input (README.md, Frames)",
     );
     true
 }
 
 // One read: how many bytes it put at the start of the input. It takes a step for each and one more.
 // If it fails, standard error says so, and one step is left, for the write of no answers.
-pub fn read_chunk(input: &mut [u8], steps: &mut usize) -> usize
+pub fn read_chunk(mut streams: Streams, input: &mut [u8], steps: &mut usize) -> usize
     requires { length input.old < steps.old }
     ensures { (IsPrefixLen result input.new) × (Read steps.old steps.new result) }
 {
-    let got = libc::read(STDIN_FILENO, input);
-    if got < 0 {
-        io::write_all(STDERR_FILENO, b"frames: standard input cannot be read\n");
+    let Ok(n) = streams.stdin.read(input) else {
+        let _ = streams
+            .stderr
+            .eprintln("frames: standard input cannot be read");
         *steps = 1;
         return 0;
-    }
-    let n = io::count(got, input);
+    };
     *steps -= n + 1;
     n
 }
 
 // Writes the first n bytes of the output. It takes a step for each and one more. If not all are
 // written, standard error says so, and no step is left.
-fn write_answers(output: &Output, n: usize, steps: &mut usize)
+fn write_answers(streams: Streams, output: &Output, n: usize, steps: &mut usize)
     requires { (IsPrefixLen n output.now) × (n < steps.old) }
     ensures { Wrote steps.old steps.new n }
 {
     let all: &[u8] = output;
-    if !io::write_all(STDOUT_FILENO, &all[..n]) {
-        io::write_all(STDERR_FILENO, b"frames: the answers cannot be written\n");
+    if streams.stdout.write_all(&all[..n]).is_err() {
+        let _ = streams
+            .stderr
+            .eprintln("frames: the answers cannot be written");
         *steps = 0;
         return;
     }
@@ -76,6 +100,7 @@ fn write_answers(output: &Output, n: usize, steps: &mut usize)
 
 // Answers the lines that end in the first n bytes of the input, and writes the answers.
 pub fn answer_chunk(
+    streams: Streams,
     words: &mut Words,
     bytes: &mut Bytes,
     permanent: &mut [u64],
@@ -91,12 +116,10 @@ pub fn answer_chunk(
 ) -> Fed
     requires lent { (Ready words.old bytes.old) × (length line.old ≡ 40) × (19 * length input.now ≤ length output.old) }
     requires counted { (IsPrefixLen n input.now) × (19 * n < steps.old) }
-    ensures fed {
-        Feeds
+    ensures fed { Feeds
         (held (core words.old bytes.old permanent.old scratch.old map.old written.old) line.old len output.old 0)
         (held (core words.new bytes.new permanent.new scratch.new map.new written.new) line.new result.len output.new result.written)
-        (take n input.now)
-    }
+        (take n input.now) }
     ensures wrote { Wrote steps.old steps.new result.written }
 {
     let fed = reader::feed::feed(
@@ -111,12 +134,13 @@ pub fn answer_chunk(
         &input[..n],
         output,
     );
-    write_answers(output, fed.written, steps);
+    write_answers(streams, output, fed.written, steps);
     fed
 }
 
 // Answers what is left at the end of the input. How many bytes were written.
 pub fn answer_rest(
+    streams: Streams,
     words: &mut Words,
     bytes: &mut Bytes,
     permanent: &mut [u64],
@@ -129,16 +153,14 @@ pub fn answer_rest(
     steps: &mut usize,
 ) -> usize
     requires { (Ready words.old bytes.old) × (length line.now ≡ 40) × (19 ≤ length output.old) × (19 < steps.old) }
-    ensures ended {
-        Finishes
+    ensures ended { Finishes
         (held (core words.old bytes.old permanent.old scratch.old map.old written.old) line.now len output.old 0)
-        (held (core words.new bytes.new permanent.new scratch.new map.new written.new) line.now 0 output.new result)
-    }
+        (held (core words.new bytes.new permanent.new scratch.new map.new written.new) line.now 0 output.new result) }
     ensures wrote { Wrote steps.old steps.new result }
 {
     let sent = reader::feed::finish(
         words, bytes, permanent, scratch, map, written, line, len, output,
     );
-    write_answers(output, sent, steps);
+    write_answers(streams, output, sent, steps);
     sent
 }
