@@ -14,8 +14,7 @@ use tables::{Bytes, Words};
 use views::ViewPlace;
 
 // Op 06: an object with so many slots and data words in the current area; the value is its handle.
-#[unsafe(no_mangle)]
-pub extern "C" fn scopes_allocate(
+pub fn scopes_allocate(
     words: &mut Words,
     bytes: &Bytes,
     permanent: &mut [u64],
@@ -39,8 +38,7 @@ pub extern "C" fn scopes_allocate(
 }
 
 // Op 07: a reference to a target, or null, is stored in a slot of an object.
-#[unsafe(no_mangle)]
-pub extern "C" fn scopes_store(
+pub fn scopes_store(
     words: &Words,
     bytes: &Bytes,
     permanent: &mut [u64],
@@ -65,8 +63,7 @@ pub extern "C" fn scopes_store(
 }
 
 // Op 08: the value is the reference in a slot of an object.
-#[unsafe(no_mangle)]
-pub extern "C" fn scopes_load<'a>(
+pub fn scopes_load<'a>(
     words: &Words,
     bytes: &Bytes,
     permanent: &'a [u64],
@@ -90,8 +87,7 @@ pub extern "C" fn scopes_load<'a>(
 }
 
 // Op 09: a data word of an object is written.
-#[unsafe(no_mangle)]
-pub extern "C" fn scopes_write(
+pub fn scopes_write(
     words: &Words,
     bytes: &Bytes,
     permanent: &mut [u64],
@@ -116,8 +112,7 @@ pub extern "C" fn scopes_write(
 }
 
 // Op 0a: the value is a data word of an object.
-#[unsafe(no_mangle)]
-pub extern "C" fn scopes_read<'a>(
+pub fn scopes_read<'a>(
     words: &Words,
     bytes: &Bytes,
     permanent: &'a [u64],
@@ -141,8 +136,7 @@ pub extern "C" fn scopes_read<'a>(
 }
 
 // The status of showing an object's data.
-#[unsafe(no_mangle)]
-pub extern "C" fn scopes_view_status<'a>(
+pub fn scopes_view_status<'a>(
     words: &Words,
     bytes: &Bytes,
     permanent: &'a [u64],
@@ -163,8 +157,7 @@ pub extern "C" fn scopes_view_status<'a>(
 }
 
 // Where its data lie: a store, the first word and how many; what `views::view` shows.
-#[unsafe(no_mangle)]
-pub extern "C" fn scopes_view_place<'a>(
+pub fn scopes_view_place<'a>(
     words: &Words,
     bytes: &Bytes,
     permanent: &'a [u64],

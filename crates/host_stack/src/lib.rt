@@ -8,16 +8,14 @@ use layout::answer::Answer;
 use layout::stack::ScopeStack;
 
 // A stack with no entry.
-#[unsafe(no_mangle)]
-pub extern "C" fn scopes_stack_empty() -> ScopeStack
+pub fn scopes_stack_empty() -> ScopeStack
     ensures { result ≡ empty_stack }
 {
     layout::stack::empty()
 }
 
 // Push: 6 for an area above 63, 9 on 32 entries, else 0; refused, the stack stays as it is.
-#[unsafe(no_mangle)]
-pub extern "C" fn scopes_stack_push(s: &mut ScopeStack, area: u64) -> Answer
+pub fn scopes_stack_push(s: &mut ScopeStack, area: u64) -> Answer
     ensures { (result ≡ push_answer s.old area) × (s.new ≡ pushed_stack s.old area) }
 {
     let answer = layout::stack::push_answer(*s, area);
@@ -26,8 +24,7 @@ pub extern "C" fn scopes_stack_push(s: &mut ScopeStack, area: u64) -> Answer
 }
 
 // Pop: 11 on no entry, else 0 and the top area.
-#[unsafe(no_mangle)]
-pub extern "C" fn scopes_stack_pop(s: &mut ScopeStack) -> Answer
+pub fn scopes_stack_pop(s: &mut ScopeStack) -> Answer
     ensures { (result ≡ pop_answer s.old) × (s.new ≡ popped_stack s.old) }
 {
     let answer = layout::stack::pop_answer(*s);

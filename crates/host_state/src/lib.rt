@@ -1,6 +1,6 @@
 // The core for C and Rust, first part: set-up, and ops 01 to 05, 0b and 0c: threads start and end, also as helpers
-// with their starters' stacks, scopes are made, entered, left and removed. One exported function for each call, thin
-// over the crate that has it.
+// with their starters' stacks, scopes are made, entered, left and removed. One function for each call, thin over the
+// crate that has it; `host_c` exports it.
 //
 // The host keeps the two tables of the state, `words` and `bytes`, and the four buffers, and lends
 // them to each call. Beside that a call asks one thing, `Usable`: that the tables are those that
@@ -17,8 +17,7 @@ use setup::SetUp;
 use tables::{Bytes, Words};
 
 // Set-up: the first h words of the permanent store are the heap's, the other i immortal memory's.
-#[unsafe(no_mangle)]
-pub extern "C" fn scopes_set_up(
+pub fn scopes_set_up(
     permanent: &[u64],
     scratch: &[u64],
     map: &[u64],
@@ -32,8 +31,7 @@ pub extern "C" fn scopes_set_up(
 }
 
 // Set-up in place: the host's own tables, whatever they held. The answer is the status.
-#[unsafe(no_mangle)]
-pub extern "C" fn scopes_set_up_in_place(
+pub fn scopes_set_up_in_place(
     words: &mut Words,
     bytes: &mut Bytes,
     permanent: &[u64],
@@ -49,8 +47,7 @@ pub extern "C" fn scopes_set_up_in_place(
 }
 
 // Op 01: thread t starts, of a kind.
-#[unsafe(no_mangle)]
-pub extern "C" fn scopes_start(
+pub fn scopes_start(
     words: &mut Words,
     bytes: &Bytes,
     permanent: &[u64],
@@ -71,8 +68,7 @@ pub extern "C" fn scopes_start(
 }
 
 // Op 0b: thread t starts a helper of a kind, which begins with the stack of thread t.
-#[unsafe(no_mangle)]
-pub extern "C" fn scopes_start_helper(
+pub fn scopes_start_helper(
     words: &mut Words,
     bytes: &mut Bytes,
     permanent: &[u64],
@@ -96,8 +92,7 @@ pub extern "C" fn scopes_start_helper(
 }
 
 // Op 02: thread t ends.
-#[unsafe(no_mangle)]
-pub extern "C" fn scopes_end(
+pub fn scopes_end(
     words: &mut Words,
     bytes: &Bytes,
     permanent: &[u64],
@@ -117,8 +112,7 @@ pub extern "C" fn scopes_end(
 }
 
 // Op 03: a scope is made, of a size in words.
-#[unsafe(no_mangle)]
-pub extern "C" fn scopes_make(
+pub fn scopes_make(
     words: &mut Words,
     bytes: &Bytes,
     permanent: &[u64],
@@ -142,8 +136,7 @@ pub extern "C" fn scopes_make(
 }
 
 // Op 0c: a scope is removed.
-#[unsafe(no_mangle)]
-pub extern "C" fn scopes_remove(
+pub fn scopes_remove(
     words: &mut Words,
     bytes: &Bytes,
     permanent: &[u64],
@@ -164,8 +157,7 @@ pub extern "C" fn scopes_remove(
 }
 
 // Op 04: an area is entered; the value is its generation.
-#[unsafe(no_mangle)]
-pub extern "C" fn scopes_enter(
+pub fn scopes_enter(
     words: &mut Words,
     bytes: &mut Bytes,
     permanent: &[u64],
@@ -186,8 +178,7 @@ pub extern "C" fn scopes_enter(
 }
 
 // Op 05: the current area is left; the value is the count that is left of a scope, else 0.
-#[unsafe(no_mangle)]
-pub extern "C" fn scopes_exit(
+pub fn scopes_exit(
     words: &mut Words,
     bytes: &Bytes,
     permanent: &[u64],

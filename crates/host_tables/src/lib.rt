@@ -9,8 +9,7 @@ use layout::answer::Answer;
 use tables::{Bytes, Words};
 
 // The rights table in force becomes the 36 digits of a text.
-#[unsafe(no_mangle)]
-pub extern "C" fn scopes_load_rights(words: &Words, bytes: &mut Bytes, text: &[u8]) -> Answer
+pub fn scopes_load_rights(words: &Words, bytes: &mut Bytes, text: &[u8]) -> Answer
     requires { Ready words.now bytes.old }
     ensures { AnswersAlone result (load_rights text.now) words.now bytes.old words.now bytes.new }
 {

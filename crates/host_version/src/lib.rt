@@ -9,8 +9,7 @@ ghost use Rattle.host_version.specs.Version.{version};
 const VERSION: u64 = 5000;
 
 // The version as one number: major * 1,000,000 + minor * 1,000 + patch.
-#[unsafe(no_mangle)]
-pub extern "C" fn scopes_version() -> u64
+pub fn scopes_version() -> u64
     ensures { result ≡ version }
 {
     VERSION
