@@ -3,7 +3,7 @@
 // crate that has it; `host_c` exports it.
 //
 // The host keeps the two tables of the state, `words` and `bytes`, and the four buffers, and lends
-// them to each call. Beside that a call asks one thing, `Usable`: that the tables are those that
+// them to each call. Beside that a call asks one thing, `Ready`: that the tables are those that
 // set-up gave and that calls alone have changed since. Every call leaves it for the next. What the
 // buffers hold is free. What a call answers and leaves is the one contract of any call, `Answers`.
 #![tactic(auto)]

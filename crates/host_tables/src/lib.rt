@@ -1,5 +1,5 @@
 // The core for C and Rust: the calls without an op, which replace a table of the state. They are lent
-// the state alone, no buffer of set-up, and ask for what every call asks, `Usable`.
+// the state alone, no buffer of set-up, and ask for what every call asks, `Ready`.
 #![tactic(auto)]
 
 ghost use Rattle.model.specs.Calls.{load_rights};
