@@ -1,0 +1,17 @@
+-- `scopes_view_place` meets its contract: the place that is told answers both calls.
+use Rattle.tables.specs.Contract.{memory_of}
+use Rattle.views.specs.ViewAnswers.{place_shows, place_tells}
+use Rattle.host_objects.proofs.scopes_view_place.Goals as goal
+
+pub returns : goal.returns
+returns c =
+    let a = c.args in
+    let m = memory_of a.permanent.now a.scratch.now a.map.now a.written.now in
+    let e = c.view_place.ensures in
+    record {
+      place = e;
+      answers = record {
+        shows = place_shows a.words.now a.bytes.now m a.t a.object c.requires _ e;
+        tells = place_tells a.words.now a.bytes.now m a.t a.object c.requires _ e;
+      };
+    }
