@@ -30,7 +30,7 @@ test:
 
 # Proves each crate, and builds the programs.
 prove:
-	@scripts/in-memory rt check
+	@rt all check && scripts/program
 
 # Proves and builds the core for C and Rust: target/include/scopes.h and target/lib/libscopes.a.
 lib:
@@ -71,11 +71,11 @@ instructions:
 
 # Formats the code of all crates.
 format:
-	@rt fmt
+	@for crate in crates/*/; do (cd "$$crate" && rt fmt) || exit 1; done
 
 # Removes everything that was built.
 clean:
-	@rm -rf target
+	@rm -rf target crates/*/out
 
 # Lists these targets.
 help:
