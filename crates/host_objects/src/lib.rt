@@ -26,11 +26,9 @@ pub fn scopes_allocate(
     data_words: u64,
 ) -> Answer
     requires { Ready words.old bytes.now }
-    ensures {
-        Answers result (calls.allocate t slots data_words)
+    ensures { Answers result (calls.allocate t slots data_words)
         words.old bytes.now (memory_of permanent.old scratch.old map.old written.old)
-        words.new bytes.now (memory_of permanent.new scratch.new map.new written.new)
-    }
+        words.new bytes.now (memory_of permanent.new scratch.new map.new written.new) }
 {
     allocation::allocate(
         words, bytes, permanent, scratch, map, written, t, slots, data_words,
@@ -51,11 +49,9 @@ pub fn scopes_store(
     target: u64,
 ) -> Answer
     requires { Ready words.now bytes.now }
-    ensures {
-        Answers result (calls.store t object slot target)
+    ensures { Answers result (calls.store t object slot target)
         words.now bytes.now (memory_of permanent.old scratch.old map.now written.now)
-        words.now bytes.now (memory_of permanent.new scratch.new map.now written.now)
-    }
+        words.now bytes.now (memory_of permanent.new scratch.new map.now written.now) }
 {
     references::store(
         words, bytes, permanent, scratch, map, written, t, object, slot, target,
@@ -75,11 +71,9 @@ pub fn scopes_load<'a>(
     slot: u64,
 ) -> Answer
     requires { Ready words.now bytes.now }
-    ensures {
-        Answers result (calls.load t object slot)
+    ensures { Answers result (calls.load t object slot)
         words.now bytes.now (memory_of permanent.now scratch.now map.now written.now)
-        words.now bytes.now (memory_of permanent.now scratch.now map.now written.now)
-    }
+        words.now bytes.now (memory_of permanent.now scratch.now map.now written.now) }
 {
     references::load(
         words, bytes, permanent, scratch, map, written, t, object, slot,
@@ -100,11 +94,9 @@ pub fn scopes_write(
     word: u64,
 ) -> Answer
     requires { Ready words.now bytes.now }
-    ensures {
-        Answers result (calls.write t object index word)
+    ensures { Answers result (calls.write t object index word)
         words.now bytes.now (memory_of permanent.old scratch.old map.now written.old)
-        words.now bytes.now (memory_of permanent.new scratch.new map.now written.new)
-    }
+        words.now bytes.now (memory_of permanent.new scratch.new map.now written.new) }
 {
     data::write(
         words, bytes, permanent, scratch, map, written, t, object, index, word,
@@ -124,11 +116,9 @@ pub fn scopes_read<'a>(
     index: u64,
 ) -> Answer
     requires { Ready words.now bytes.now }
-    ensures {
-        Answers result (calls.read t object index)
+    ensures { Answers result (calls.read t object index)
         words.now bytes.now (memory_of permanent.now scratch.now map.now written.now)
-        words.now bytes.now (memory_of permanent.now scratch.now map.now written.now)
-    }
+        words.now bytes.now (memory_of permanent.now scratch.now map.now written.now) }
 {
     data::read(
         words, bytes, permanent, scratch, map, written, t, object, index,
@@ -147,11 +137,9 @@ pub fn scopes_view_status<'a>(
     object: u64,
 ) -> Answer
     requires { Ready words.now bytes.now }
-    ensures {
-        Answers result (calls.view_status t object)
+    ensures { Answers result (calls.view_status t object)
         words.now bytes.now (memory_of permanent.now scratch.now map.now written.now)
-        words.now bytes.now (memory_of permanent.now scratch.now map.now written.now)
-    }
+        words.now bytes.now (memory_of permanent.now scratch.now map.now written.now) }
 {
     views::view_status(words, bytes, permanent, scratch, map, written, t, object)
 }

@@ -58,11 +58,9 @@ pub fn scopes_start(
     kind: u64,
 ) -> Answer
     requires { Ready words.old bytes.now }
-    ensures {
-        Answers result (calls.start t kind)
+    ensures { Answers result (calls.start t kind)
         words.old bytes.now (memory_of permanent.now scratch.now map.now written.now)
-        words.new bytes.now (memory_of permanent.now scratch.now map.now written.now)
-    }
+        words.new bytes.now (memory_of permanent.now scratch.now map.now written.now) }
 {
     threads::start(words, bytes, permanent, scratch, map, written, t, kind)
 }
@@ -80,11 +78,9 @@ pub fn scopes_start_helper(
     helper: u64,
 ) -> Answer
     requires { Ready words.old bytes.old }
-    ensures {
-        Answers result (calls.start_helper t kind helper)
+    ensures { Answers result (calls.start_helper t kind helper)
         words.old bytes.old (memory_of permanent.now scratch.now map.now written.now)
-        words.new bytes.new (memory_of permanent.now scratch.now map.now written.now)
-    }
+        words.new bytes.new (memory_of permanent.now scratch.now map.now written.now) }
 {
     helpers::start_helper(
         words, bytes, permanent, scratch, map, written, t, kind, helper,
@@ -102,11 +98,9 @@ pub fn scopes_end(
     t: u64,
 ) -> Answer
     requires { Ready words.old bytes.now }
-    ensures {
-        Answers result (calls.end t)
+    ensures { Answers result (calls.end t)
         words.old bytes.now (memory_of permanent.now scratch.now map.now written.now)
-        words.new bytes.now (memory_of permanent.now scratch.now map.now written.now)
-    }
+        words.new bytes.now (memory_of permanent.now scratch.now map.now written.now) }
 {
     threads::end(words, bytes, permanent, scratch, map, written, t)
 }
@@ -124,11 +118,9 @@ pub fn scopes_make(
     size: u64,
 ) -> Answer
     requires { Ready words.old bytes.now }
-    ensures {
-        Answers result (calls.make t area size)
+    ensures { Answers result (calls.make t area size)
         words.old bytes.now (memory_of permanent.now scratch.now map.now written.now)
-        words.new bytes.now (memory_of permanent.now scratch.now map.now written.now)
-    }
+        words.new bytes.now (memory_of permanent.now scratch.now map.now written.now) }
 {
     areas::make::make(
         words, bytes, permanent, scratch, map, written, t, area, size,
@@ -147,11 +139,9 @@ pub fn scopes_remove(
     q: u64,
 ) -> Answer
     requires { Ready words.old bytes.now }
-    ensures {
-        Answers result (calls.remove t q)
+    ensures { Answers result (calls.remove t q)
         words.old bytes.now (memory_of permanent.now scratch.now map.now written.now)
-        words.new bytes.now (memory_of permanent.now scratch.now map.now written.now)
-    }
+        words.new bytes.now (memory_of permanent.now scratch.now map.now written.now) }
 {
     removal::remove(words, bytes, permanent, scratch, map, written, t, q)
 }
@@ -168,11 +158,9 @@ pub fn scopes_enter(
     area: u64,
 ) -> Answer
     requires { Ready words.old bytes.old }
-    ensures {
-        Answers result (calls.enter t area)
+    ensures { Answers result (calls.enter t area)
         words.old bytes.old (memory_of permanent.now scratch.now map.now written.now)
-        words.new bytes.new (memory_of permanent.now scratch.now map.now written.now)
-    }
+        words.new bytes.new (memory_of permanent.now scratch.now map.now written.now) }
 {
     entry::enter(words, bytes, permanent, scratch, map, written, t, area)
 }
@@ -188,11 +176,9 @@ pub fn scopes_exit(
     t: u64,
 ) -> Answer
     requires { Ready words.old bytes.now }
-    ensures {
-        Answers result (calls.exit t)
+    ensures { Answers result (calls.exit t)
         words.old bytes.now (memory_of permanent.now scratch.now map.now written.now)
-        words.new bytes.now (memory_of permanent.now scratch.now map.now written.now)
-    }
+        words.new bytes.now (memory_of permanent.now scratch.now map.now written.now) }
 {
     exit::exit(words, bytes, permanent, scratch, map, written, t)
 }
