@@ -19,7 +19,7 @@ use Rattle.model.specs.Invariant.{Good}
 use Rattle.model.proofs.Accepted.{Admitted, allocate_ok}
 use Rattle.model.proofs.Outcomes.{fit_fitted}
 use Rattle.tables.specs.Decode.{state_of, put_area, Holds}
-use Rattle.tables.specs.Laws.{state_area}
+use Rattle.tables.proofs.Laws.{state_area}
 use Rattle.tables.specs.Contract.{Ready, memory_of}
 use Rattle.callers.specs.Caller.{caller_refused, called_rest}
 use Rattle.model.proofs.PlacedWords.{supplied_lengths}

@@ -7,7 +7,8 @@ use borrow.Author.Tests.{le-leb, lt-leb, lt-ltb, le-ltb, eq-eqb, ne_eqb}
 use Rattle.layout.specs.Choice.{refuse, hit, skip}
 use Rattle.layout.specs.Verdict.{Cases, verdict_of, passed_verdict, stopped_verdict, verdict_passed, verdict_stopped}
 use Rattle.bitmap.specs.Bitmap.{marked}
-use Rattle.runs.specs.LowestRun.{lowest_run, is_clear, too_long}
+use Rattle.runs.specs.LowestRun.{lowest_run, is_clear}
+use Rattle.runs.proofs.LowestRun.{too_long}
 use Rattle.model.specs.declared.Area.{Area}
 use Rattle.model.specs.declared.Lengths.{Lengths}
 use Rattle.model.specs.State.{State, is_made, with_area}
@@ -17,7 +18,7 @@ use Rattle.model.specs.Scopes.{make_rest, made_area, make_state}
 use Rattle.model.proofs.Accepted.{Called, MakeOk, make_ok}
 use Rattle.tables.specs.Decode.{state_of, area_record, put_area, lengths_record, used_bits_of, put_used_bits, Holds}
 use Rattle.tables.specs.Contract.{Ready}
-use Rattle.tables.specs.Laws.{area_read, lengths_read, used_bits_read, state_area}
+use Rattle.tables.proofs.Laws.{area_read, lengths_read, used_bits_read, state_area}
 use Rattle.flips.specs.Flipped.{AllBits}
 use Rattle.held_blocks.specs.Part.{bits_kept, used_hold}
 use Rattle.callers.specs.Caller.{thread_refused, called_rest}

@@ -12,7 +12,7 @@ use Rattle.model.specs.Checks.{fits, is_started, called, admit}
 use Rattle.model.proofs.Accepted.{Called, called_ok, Admitted, admitted}
 use Rattle.model.proofs.Outcomes.{unfit_fitted, fit_fitted}
 use Rattle.tables.specs.Decode.{state_of, lengths_record}
-use Rattle.tables.specs.Laws.{lengths_read}
+use Rattle.tables.proofs.Laws.{lengths_read}
 
 -- ---- the four lengths, where o, n, k and j are those of set-up, read for each test
 

@@ -4,7 +4,7 @@ use Rattle.std.specs.Prelude.{ℕ, ◌≤◌, ◌<◌, Bool, List, ◌≡◌, eq
 use Rattle.std.proofs.Common.{arith, sym, ◌∙◌}
 use Rattle.std.proofs.Math.Path.{ap}
 use Rattle.rights.specs.Rights.{class_of, digit1, table_size, place_of, allows}
-use Rattle.rights.specs.Loading.{allows_at}
+use Rattle.rights.proofs.Loading.{allows_at}
 use Rattle.rights.specs.declared.Right.{Right}
 use Rattle.model.specs.State.{thread_at}
 use Rattle.model.specs.Checks.{has_right}
@@ -12,7 +12,7 @@ use Rattle.model.proofs.Accepted.{Called}
 use Rattle.tables.specs.declared.ThreadWords.{ThreadWords}
 use Rattle.tables.specs.Cut.{get_d_cut}
 use Rattle.tables.specs.Decode.{rights_at, rights_of, state_of, thread_record, right_of}
-use Rattle.tables.specs.Laws.{kind_read}
+use Rattle.tables.proofs.Laws.{kind_read}
 use Rattle.tables.specs.Contract.{Ready}
 
 -- d is the digit at the place i of a kind, the area's class and the right

@@ -9,7 +9,7 @@ use Rattle.model.specs.Invariant.{ThreadGood}
 use Rattle.tables.specs.declared.ThreadWords.{ThreadWords}
 use Rattle.tables.specs.declared.Entry.{Entry}
 use Rattle.tables.specs.Decode.{state_of, thread_record, entry_record}
-use Rattle.tables.specs.Laws.{len_read, entry_read, inner_read}
+use Rattle.tables.proofs.Laws.{len_read, entry_read, inner_read}
 use Rattle.tables.specs.Contract.{Ready}
 
 -- the current area and the innermost scope

@@ -16,7 +16,7 @@ use Rattle.model.proofs.Accepted.{Called, EnterOk, enter_ok}
 use Rattle.tables.specs.declared.ThreadWords.{ThreadWords}
 use Rattle.tables.specs.declared.Entry.{Entry}
 use Rattle.tables.specs.Decode.{state_of, area_record, thread_record}
-use Rattle.tables.specs.Laws.{area_read, len_read}
+use Rattle.tables.proofs.Laws.{area_read, len_read}
 use Rattle.callers.specs.Caller.{thread_refused, called_rest}
 use Rattle.callers.specs.Stack.{top_entry_of}
 use Rattle.opening.specs.Entered.{Enterable}

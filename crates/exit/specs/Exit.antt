@@ -13,7 +13,7 @@ use Rattle.model.specs.Invariant.{Good}
 use Rattle.model.proofs.Accepted.{Called, ExitOk, exit_ok}
 use Rattle.tables.specs.declared.ThreadWords.{ThreadWords}
 use Rattle.tables.specs.Decode.{state_of, area_record, put_area, thread_record, put_thread, Shaped, Holds}
-use Rattle.tables.specs.Laws.{area_read, kind_read, len_read, state_area, state_thread}
+use Rattle.tables.proofs.Laws.{area_read, kind_read, len_read, state_area, state_thread}
 use Rattle.callers.specs.Caller.{no_thread_lem, started, thread_refused, called_rest}
 
 module _ (s : State) (t : ℕ) where

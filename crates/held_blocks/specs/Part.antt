@@ -16,7 +16,7 @@ use Rattle.model.specs.declared.Area.{Area}
 use Rattle.model.specs.State.{State, with_area, with_used_bits}
 use Rattle.model.specs.Blocks.{with_used_blocks, with_free_blocks}
 use Rattle.tables.specs.Decode.{area_count, used_bits_at, used_bits_words, word_count, state_of, put_area, used_bits_of, put_used_bits, Shaped, Holds}
-use Rattle.tables.specs.Laws.{used_bits_read, state_area, state_used_bits}
+use Rattle.tables.proofs.Laws.{used_bits_read, state_area, state_used_bits}
 
 pub length_bits : (w : List ℕ) → length (used_bits_of w) ≡ used_bits_words
 unfolding used_bits_of

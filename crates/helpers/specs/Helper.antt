@@ -26,9 +26,9 @@ use Rattle.model.proofs.KeepsHelper.{stack_open, raised_bound, good_helper}
 use Rattle.tables.specs.declared.ThreadWords.{ThreadWords}
 use Rattle.tables.specs.declared.Entry.{Entry}
 use Rattle.tables.specs.Decode.{state_of, area_record, put_area, thread_record, put_thread, entry_record, copy_stack, rights_of, Shaped, Holds}
-use Rattle.tables.specs.Laws.{area_read, len_read, entry_read, state_area, state_copy}
+use Rattle.tables.proofs.Laws.{area_read, len_read, entry_read, state_area, state_copy}
 use Rattle.tables.specs.Contract.{Ready, Changed}
-use Rattle.tables.specs.AnsweredLaws.{changed_accepted}
+use Rattle.tables.proofs.AnsweredLaws.{changed_accepted}
 use Rattle.callers.specs.Caller.{thread_refused, called_rest}
 use Rattle.callers.specs.Stack.{length_bound}
 use Rattle.threads.specs.Thread.{start_refused, start_passed}

@@ -9,7 +9,7 @@ use Rattle.model.specs.Calls.{Reply, outcome_of}
 use Rattle.model.specs.Run.{World}
 use Rattle.tables.specs.Decode.{state_of}
 use Rattle.tables.specs.Contract.{memory_of, Ready, plain, Answered}
-use Rattle.tables.specs.AnsweredLaws.{step_kept}
+use Rattle.tables.proofs.AnsweredLaws.{step_kept}
 use Rattle.lines.specs.declared.frame.Fields.{Fields}
 use Rattle.lines.specs.declared.frame.Parsed.{Parsed}
 use Rattle.lines.specs.declared.frame.Parsed.TheVariants.{Frame, Bad}

@@ -15,9 +15,9 @@ use Rattle.model.proofs.Accepted.{load_rights_ok}
 use Rattle.model.proofs.KeepsConfiguration.{good_load}
 use Rattle.tables.specs.declared.ThreadWords.{ThreadWords}
 use Rattle.tables.specs.Decode.{state_of, thread_record, put_rights}
-use Rattle.tables.specs.Laws.{kind_read, state_rights}
+use Rattle.tables.proofs.Laws.{kind_read, state_rights}
 use Rattle.tables.specs.Contract.{Ready, plain, Answered}
-use Rattle.tables.specs.AnsweredLaws.{changed_refused, changed_accepted, unsupplied_answered}
+use Rattle.tables.proofs.AnsweredLaws.{changed_refused, changed_accepted, unsupplied_answered}
 
 -- ---- the loops, one turn further
 

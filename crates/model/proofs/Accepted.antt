@@ -11,9 +11,10 @@ use Rattle.layout.specs.Choice.{peel, and_true, and_false, or_false}
 use Rattle.layout.specs.Handle.{null, area_of}
 use Rattle.layout.specs.Header.{slots_of, data_of}
 use Rattle.bitmap.specs.Bitmap.{bit_at}
-use Rattle.runs.specs.LowestRun.{is_clear, Lowest, lowest_run_lem}
+use Rattle.runs.specs.LowestRun.{is_clear, Lowest}
+use Rattle.runs.proofs.LowestRun.{lowest_run_lem}
 use Rattle.rights.specs.Rights.{is_table, Loadable}
-use Rattle.rights.specs.Loading.{table_loadable}
+use Rattle.rights.proofs.Loading.{table_loadable}
 use Rattle.model.specs.State.{State, Memory, area_at, thread_at, stack_at, innermost, is_no_scope, is_made, is_open}
 use Rattle.model.specs.Blocks.{block_count, blocks_for, room_for, no_room}
 use Rattle.model.specs.Checks.{fits, fitted, called, admit, header_at, live, is_object, is_reference, use_rest}

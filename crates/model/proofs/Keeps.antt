@@ -12,7 +12,7 @@ use borrow.Author.Tests.{eqb-true, ltb-true, ltb-false, not-false}
 use Rattle.layout.specs.Choice.{refuse, cases, peel}
 use Rattle.layout.specs.Stack.{down}
 use Rattle.bitmap.specs.Bitmap.{bit_at}
-use Rattle.rights.specs.Loading.{built_in_loadable}
+use Rattle.rights.proofs.Loading.{built_in_loadable}
 use Rattle.model.specs.declared.Area.{Area}
 use Rattle.model.specs.declared.Lengths.{Lengths}
 use Rattle.model.specs.State.{State, Memory, no_area, no_thread, area_at, entries_of}

@@ -13,7 +13,7 @@ use Rattle.model.specs.State.{State, area_at, row_at, thread_at, with_area, with
 use Rattle.model.specs.Scopes.{last_generation, reentered, opened, entered_area, pushed, enter_state, enter_value}
 use Rattle.tables.specs.declared.ThreadWords.{ThreadWords}
 use Rattle.tables.specs.Decode.{state_of, area_record, put_area, thread_record, put_thread, put_entry, display_row, put_row, Shaped, Holds}
-use Rattle.tables.specs.Laws.{area_read, row_read, kind_read, len_read, length_row, state_area, state_row, state_push}
+use Rattle.tables.proofs.Laws.{area_read, row_read, kind_read, len_read, length_row, state_area, state_row, state_push}
 
 -- what an accepted entry has
 pub record Enterable (s : State) (t q : ℕ) : Type 0 where

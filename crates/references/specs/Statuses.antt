@@ -13,7 +13,7 @@ use Rattle.model.specs.State.{State, Memory, area_at, display_holds}
 use Rattle.model.specs.Checks.{has_right, is_reference}
 use Rattle.model.specs.References.{may_refer, word_after, slot_rest, reference_rest, store_rest, load_rest}
 use Rattle.tables.specs.Decode as decode
-use Rattle.tables.specs.Laws.{area_read, row_read}
+use Rattle.tables.proofs.Laws.{area_read, row_read}
 use Rattle.objects.specs.declared.find.Resolved.{Resolved}
 use Rattle.objects.specs.declared.find.Found.TheVariants.{At, Nothing}
 use Rattle.objects.specs.Found.{found_of}

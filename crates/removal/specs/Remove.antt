@@ -14,7 +14,7 @@ use Rattle.model.specs.Removal.{remove_rest, removed_area, remove_state}
 use Rattle.model.proofs.Accepted.{Called, RemoveOk}
 use Rattle.tables.specs.Decode.{state_of, area_record, put_area, used_bits_of, put_used_bits, Holds}
 use Rattle.tables.specs.Contract.{Ready}
-use Rattle.tables.specs.Laws.{area_read, state_area}
+use Rattle.tables.proofs.Laws.{area_read, state_area}
 use Rattle.flips.specs.Flipped.{AllBits}
 use Rattle.held_blocks.specs.Part.{bits_kept, free_hold}
 use Rattle.callers.specs.Caller.{thread_refused, called_rest}

@@ -1,3 +1,2 @@
--- The rights table: the definitions that the contracts cite, and the laws that callers use of them.
+-- The rights table: the definitions that the contracts cite.
 pub mod Rights
-pub mod Loading

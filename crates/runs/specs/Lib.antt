@@ -1,2 +1,2 @@
--- The lowest run of numbers that pass a test, and the laws that callers use of it.
+-- The lowest run of numbers that pass a test.
 pub mod LowestRun

@@ -4,7 +4,8 @@ use Rattle.std.specs.Prelude.{ℕ, suc, ◌+◌, ◌-◌, ◌*◌, ◌≤◌, �
 use Rattle.std.proofs.Common.{arith, eq-eqb, ne_eqb, leb-true, leb-false, ltb-true, ltb-false}
 use Rattle.layout.specs.Choice.{cases}
 use Rattle.bitmap.specs.Bitmap.{bit_at}
-use Rattle.runs.specs.LowestRun.{is_run, lowest_run, is_clear, no_run, lowest_one}
+use Rattle.runs.specs.LowestRun.{is_run, lowest_run, is_clear}
+use Rattle.runs.proofs.LowestRun.{no_run, lowest_one}
 
 module _ (m : List ℕ) (n bits : ℕ) where
   -- before the run from `start` on is looked at: no lower start has one, the bits from there to bit `seen` were seen to be clear, and there were

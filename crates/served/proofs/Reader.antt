@@ -15,7 +15,7 @@ use Rattle.model.specs.History.{history_of}
 use Rattle.model.specs.Claims.{Claims}
 use Rattle.model.proofs.Reached.{run_none, reached_step, reached_claims}
 use Rattle.tables.specs.Contract.{memory_of}
-use Rattle.tables.specs.AnsweredLaws.{world_of}
+use Rattle.tables.proofs.AnsweredLaws.{world_of}
 use Rattle.setup.specs.First.{prepared}
 use Rattle.lines.specs.declared.frame.Parsed.{Parsed}
 use Rattle.lines.specs.declared.frame.Parsed.TheVariants.{Frame, Bad}

@@ -19,7 +19,7 @@ use Rattle.model.proofs.Traces.{gone_onto}
 use Rattle.model.proofs.Reached.{run_none, reached_step, reached_claims}
 use Rattle.tables.specs.Decode.{state_of}
 use Rattle.tables.specs.Contract.{memory_of, Ready}
-use Rattle.tables.specs.AnsweredLaws.{world_of, step_kept, step_other}
+use Rattle.tables.proofs.AnsweredLaws.{world_of, step_kept, step_other}
 use Rattle.setup.specs.First.{Begun}
 use Rattle.served.specs.Served.{Served, began, called, others}
 

@@ -6,14 +6,14 @@ use Rattle.std.proofs.Math.Path.{sym}
 use Rattle.std.proofs.Math.Bool.{not}
 use Rattle.layout.specs.Choice.{refuse, hit, skip, pick_true, pick_false}
 use Rattle.rights.specs.Rights.{built_in}
-use Rattle.rights.specs.Loading.{built_in_loadable}
+use Rattle.rights.proofs.Loading.{built_in_loadable}
 use Rattle.model.specs.declared.Lengths.{Lengths}
 use Rattle.model.specs.State.{State, Memory, with_area, with_rights}
 use Rattle.model.specs.SetUp.{lengths_of, set_up_status, begins, first_state, set_up_state, standing}
 use Rattle.tables.specs.Decode.{word_count, byte_count, put_area, put_lengths, put_rights, Holds}
-use Rattle.tables.specs.Laws.{state_area, with_lengths, state_lengths, state_rights}
+use Rattle.tables.proofs.Laws.{state_area, with_lengths, state_lengths, state_rights}
 use Rattle.tables.specs.Contract.{Ready}
-use Rattle.tables.specs.Blank.{blank_holds}
+use Rattle.tables.proofs.Blank.{blank_holds}
 
 -- heap and immortal are written, then the lengths
 abbrev pub first_words : ℕ → ℕ → Lengths → List ℕ

@@ -12,9 +12,9 @@ use Rattle.model.proofs.Accepted.{Called, start_ok, end_ok}
 use Rattle.model.proofs.KeepsThreads.{good_start, good_end}
 use Rattle.tables.specs.declared.ThreadWords.{ThreadWords}
 use Rattle.tables.specs.Decode.{state_of, thread_record, put_thread, Shaped, Holds}
-use Rattle.tables.specs.Laws.{len_read, state_thread}
+use Rattle.tables.proofs.Laws.{len_read, state_thread}
 use Rattle.tables.specs.Contract.{Ready, Changed}
-use Rattle.tables.specs.AnsweredLaws.{changed_accepted}
+use Rattle.tables.proofs.AnsweredLaws.{changed_accepted}
 use Rattle.callers.specs.Caller.{thread_refused, called_rest}
 
 -- ---- op 01

@@ -10,7 +10,7 @@ use Rattle.model.specs.Data.{view_refusal, view_words}
 use Rattle.model.specs.Calls.{view, view_status, outcome_of}
 use Rattle.tables.specs.Decode.{state_of}
 use Rattle.tables.specs.Contract.{Ready, plain, view_reply, Answered}
-use Rattle.tables.specs.AnsweredLaws.{answered_refused, answered_accepted}
+use Rattle.tables.proofs.AnsweredLaws.{answered_refused, answered_accepted}
 use Rattle.views.specs.declared.ViewPlace.{ViewPlace}
 use Rattle.views.specs.PlacedView.{view_place_of, words_there}
 use Rattle.views.specs.ViewLaws.{there_is}

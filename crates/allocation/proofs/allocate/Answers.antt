@@ -7,10 +7,10 @@ use Rattle.model.specs.Calls as calls
 use Rattle.model.proofs.Accepted.{Admitted}
 use Rattle.model.proofs.Bounds.{current_area}
 use Rattle.tables.specs.declared.Entry.{Entry}
-use Rattle.tables.specs.Laws.{area_read}
+use Rattle.tables.proofs.Laws.{area_read}
 use Rattle.tables.specs.Decode.{state_of}
 use Rattle.tables.specs.Contract.{memory_of}
-use Rattle.tables.specs.AnsweredLaws.{answered_refused, answered_accepted}
+use Rattle.tables.proofs.AnsweredLaws.{answered_refused, answered_accepted}
 use Rattle.callers.specs.Caller.{caller_admitted}
 use Rattle.allocation.specs.Allocation.{allocate_not_admitted, allocate_checked, has_room}
 use Rattle.allocation.proofs.allocate.Goals as goal

@@ -7,7 +7,7 @@ use Rattle.model.specs.Calls as calls
 use Rattle.model.proofs.Accepted.{Admitted}
 use Rattle.tables.specs.Decode.{state_of}
 use Rattle.tables.specs.Contract.{memory_of}
-use Rattle.tables.specs.AnsweredLaws.{answered_refused, answered_accepted}
+use Rattle.tables.proofs.AnsweredLaws.{answered_refused, answered_accepted}
 use Rattle.callers.specs.Caller.{caller_refused, caller_admitted, admit_rest}
 use Rattle.objects.specs.declared.index.Part.TheVariants.{Data}
 use Rattle.objects.specs.Fits.{fits_stores}

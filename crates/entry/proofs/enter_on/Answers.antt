@@ -3,7 +3,7 @@ use native.Mathlib.Omega.{arith}
 use Rattle.model.specs.State.{State}
 use Rattle.model.proofs.Accepted.{Called}
 use Rattle.tables.specs.Decode.{state_of}
-use Rattle.tables.specs.AnsweredLaws.{changed_refused}
+use Rattle.tables.proofs.AnsweredLaws.{changed_refused}
 use Rattle.callers.specs.Caller.{thread_called}
 use Rattle.entry.specs.Enter.{enter_not_called, enter_no_area}
 use Rattle.entry.proofs.enter_on.Goals as goal

@@ -6,8 +6,8 @@ use Rattle.model.proofs.Accepted.{enter_ok}
 use Rattle.model.proofs.KeepsEnter.{good_enter}
 use Rattle.tables.specs.declared.Entry.{Entry}
 use Rattle.tables.specs.Decode.{state_of}
-use Rattle.tables.specs.Laws.{area_read}
-use Rattle.tables.specs.AnsweredLaws.{changed_refused, changed_accepted}
+use Rattle.tables.proofs.Laws.{area_read}
+use Rattle.tables.proofs.AnsweredLaws.{changed_refused, changed_accepted}
 use Rattle.entry.specs.Enter.{there_refused, scope_checked, enterable}
 use Rattle.entry.proofs.enter_scope.Goals as goal
 use Rattle.entry.proofs.enter_scope.Goals.{After-check_scope-status, After-top_entry-inner}

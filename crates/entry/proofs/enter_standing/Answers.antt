@@ -8,7 +8,7 @@ use Rattle.model.proofs.Accepted.{enter_ok}
 use Rattle.model.proofs.KeepsEnter.{good_enter}
 use Rattle.tables.specs.declared.Entry.{Entry}
 use Rattle.tables.specs.Decode.{state_of}
-use Rattle.tables.specs.AnsweredLaws.{changed_refused, changed_accepted}
+use Rattle.tables.proofs.AnsweredLaws.{changed_refused, changed_accepted}
 use Rattle.entry.specs.Enter.{standing_checked, enterable}
 use Rattle.opening.specs.Entered.{value_standing, standing_holds}
 use Rattle.entry.proofs.enter_standing.Goals as goal

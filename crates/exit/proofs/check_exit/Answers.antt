@@ -3,7 +3,7 @@ use mathlib.Core.Path.{◌≡◌}
 use native.Mathlib.Omega.{arith}
 use Rattle.model.specs.State.{State, thread_at}
 use Rattle.tables.specs.Decode.{state_of}
-use Rattle.tables.specs.Laws.{len_read}
+use Rattle.tables.proofs.Laws.{len_read}
 use Rattle.callers.specs.Caller.{thread_called}
 use Rattle.exit.specs.Exit.{exit_no_thread, exit_not_called, exit_empty, exit_accepted}
 use Rattle.exit.proofs.check_exit.Goals as goal

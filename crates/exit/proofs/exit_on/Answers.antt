@@ -1,7 +1,7 @@
 -- `exit::exit_on` meets its contract. Assumes nothing.
 use Rattle.model.proofs.KeepsExit.{good_exit}
 use Rattle.tables.specs.Decode.{state_of}
-use Rattle.tables.specs.AnsweredLaws.{changed_refused, changed_accepted}
+use Rattle.tables.proofs.AnsweredLaws.{changed_refused, changed_accepted}
 use Rattle.exit.specs.Exit.{exit_passed}
 use Rattle.exit.proofs.exit_on.Goals as goal
 

@@ -1,6 +1,6 @@
 -- `exit::pop` meets its contract. Assumes nothing.
 use native.Mathlib.Omega.{arith}
-use Rattle.tables.specs.Laws.{len_read}
+use Rattle.tables.proofs.Laws.{len_read}
 use Rattle.exit.specs.Exit.{popped_holds}
 use Rattle.exit.proofs.pop.Goals as goal
 

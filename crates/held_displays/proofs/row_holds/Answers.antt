@@ -11,7 +11,7 @@ use lib.Seq.{get_or-take, get_or-drop}
 use Rattle.layout.specs.Choice.{cases}
 use Rattle.layout.specs.Display.{row_holds}
 use Rattle.tables.specs.Decode.{row_bytes, row_index, display_rows, display_row}
-use Rattle.tables.specs.Laws.{byte_read}
+use Rattle.tables.proofs.Laws.{byte_read}
 use Rattle.held_displays.proofs.row_holds.Goals as goal
 
 -- a look at a depth sees one element of the row

@@ -3,7 +3,7 @@ use mathlib.Core.Path.{sym, ◌∙◌, subst}
 use Prim.Native.Nat.{◌<◌}
 use borrow.Author.Rules.{rules}
 use Rattle.model.specs.declared.Area.{Area}
-use Rattle.tables.specs.Laws.{area_read}
+use Rattle.tables.proofs.Laws.{area_read}
 use Rattle.helpers.specs.Helper.{standing_kept, scope_raised}
 use Rattle.helpers.proofs.raise_count.Goals as goal
 

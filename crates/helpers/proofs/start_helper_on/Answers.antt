@@ -1,5 +1,5 @@
 -- `start_helper_on` meets its contract: refused, or carried out.
-use Rattle.tables.specs.AnsweredLaws.{changed_refused}
+use Rattle.tables.proofs.AnsweredLaws.{changed_refused}
 use Rattle.helpers.specs.Helper.{passed, helper_on}
 use Rattle.helpers.proofs.start_helper_on.Goals as goal
 

@@ -4,7 +4,7 @@ use Prim.Native.Nat.{◌<◌, ◌≤◌}
 use Rattle.model.specs.declared.Area.{Area}
 use Rattle.model.specs.State.{area_at}
 use Rattle.tables.specs.Decode.{state_of}
-use Rattle.tables.specs.Laws.{area_read}
+use Rattle.tables.proofs.Laws.{area_read}
 use Rattle.opening.proofs.apply_enter.Goals as goal
 use Rattle.opening.proofs.apply_enter.Goals.{After-area_at}
 

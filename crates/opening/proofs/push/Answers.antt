@@ -1,7 +1,7 @@
 -- `push` meets its contract. Assumes nothing.
 use native.Mathlib.Omega.{arith}
 use Prim.Native.Nat.{◌<◌}
-use Rattle.tables.specs.Laws.{len_read}
+use Rattle.tables.proofs.Laws.{len_read}
 use Rattle.opening.specs.Entered.{pushed_holds}
 use Rattle.opening.proofs.push.Goals as goal
 use Rattle.opening.proofs.push.Goals.{After-thread_at-h}

@@ -3,7 +3,7 @@ use mathlib.Core.Path.{sym, ap, ◌∙◌}
 use native.Mathlib.Omega.{arith}
 use Rattle.model.specs.declared.Area.{Area}
 use Rattle.tables.specs.Decode.{state_of}
-use Rattle.tables.specs.Laws.{area_read}
+use Rattle.tables.proofs.Laws.{area_read}
 use Rattle.model.proofs.Bounds.{depth_bound}
 use Rattle.references.specs.Statuses.{may_plain, may_deeper, may_look}
 use Rattle.references.proofs.may_refer.Goals as goal

@@ -6,7 +6,7 @@ use Rattle.model.specs.declared.Area.{Area}
 use Rattle.model.specs.State.{State, area_at, is_made}
 use Rattle.model.proofs.Accepted.{Called}
 use Rattle.tables.specs.Decode.{state_of}
-use Rattle.tables.specs.Laws.{area_read, made_read}
+use Rattle.tables.proofs.Laws.{area_read, made_read}
 use Rattle.callers.specs.Caller.{thread_called}
 use Rattle.removal.specs.Remove.{remove_not_called, remove_low, remove_high, remove_unmade, remove_open, remove_accepted}
 use mathlib.Core.Bool.{not}

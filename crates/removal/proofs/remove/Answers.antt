@@ -1,7 +1,7 @@
 -- `remove` meets its contract: refused by 1, or as what follows it says.
 use mathlib.Core.Path.{refl}
 use borrow.Author.Rules.{rules}
-use Rattle.tables.specs.AnsweredLaws.{unfit_answered, fit_answered}
+use Rattle.tables.proofs.AnsweredLaws.{unfit_answered, fit_answered}
 use Rattle.callers.specs.Caller.{unfit, fit}
 use mathlib.Core.Bool.{not}
 use mathlib.Core.Path.{ap}

@@ -3,7 +3,7 @@ use mathlib.Core.Path.{refl, sym, ◌∙◌}
 use Rattle.model.proofs.Accepted.{remove_ok}
 use Rattle.model.proofs.KeepsScopes.{good_remove}
 use Rattle.tables.specs.Decode.{state_of}
-use Rattle.tables.specs.AnsweredLaws.{changed_refused, changed_accepted}
+use Rattle.tables.proofs.AnsweredLaws.{changed_refused, changed_accepted}
 use Rattle.removal.proofs.remove_on.Goals as goal
 
 pub apply_remove-requires : goal.apply_remove-requires

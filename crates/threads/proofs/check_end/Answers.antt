@@ -1,7 +1,7 @@
 -- `threads::check_end` meets its contract. Assumes nothing.
 use borrow.Author.Rules.{rules}
 use Rattle.model.proofs.Accepted.{Called}
-use Rattle.tables.specs.Laws.{len_read}
+use Rattle.tables.proofs.Laws.{len_read}
 use Rattle.tables.specs.Decode.{state_of}
 use Rattle.callers.specs.Caller.{thread_called}
 use Rattle.threads.specs.Thread.{end_not_called, end_entries, end_accepted}

@@ -1,7 +1,7 @@
 -- `threads::check_start` meets its contract. Assumes nothing.
 use mathlib.Core.Path.{sym, ◌∙◌}
 use borrow.Author.Rules.{rules}
-use Rattle.tables.specs.Laws.{kind_read}
+use Rattle.tables.proofs.Laws.{kind_read}
 use Rattle.tables.specs.Decode.{state_of}
 use Rattle.threads.specs.Thread.{start_no_thread, start_started, start_no_kind, start_other_kind, start_accepted}
 use Rattle.threads.proofs.check_start.Goals as goal

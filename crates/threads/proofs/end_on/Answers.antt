@@ -1,7 +1,7 @@
 -- `threads::end_on` meets its contract. Assumes nothing.
 use mathlib.Core.Path.{sym, ◌∙◌}
 use Rattle.model.proofs.Accepted.{end_ok}
-use Rattle.tables.specs.AnsweredLaws.{changed_refused}
+use Rattle.tables.proofs.AnsweredLaws.{changed_refused}
 use Rattle.threads.specs.Thread.{ended_on}
 use Rattle.threads.proofs.end_on.Goals as goal
 

@@ -1,7 +1,7 @@
 -- `threads::start_on` meets its contract. Assumes nothing.
 use mathlib.Core.Path.{sym, ◌∙◌}
 use Rattle.model.proofs.Accepted.{start_ok}
-use Rattle.tables.specs.AnsweredLaws.{changed_refused}
+use Rattle.tables.proofs.AnsweredLaws.{changed_refused}
 use Rattle.threads.specs.Thread.{started_on}
 use Rattle.threads.proofs.start_on.Goals as goal
 

@@ -7,7 +7,7 @@ use Rattle.model.specs.Checks.{fits}
 use Rattle.model.specs.Calls as calls
 use Rattle.tables.specs.Decode.{state_of}
 use Rattle.tables.specs.Contract.{memory_of}
-use Rattle.tables.specs.AnsweredLaws.{answered_refused, answered_accepted}
+use Rattle.tables.proofs.AnsweredLaws.{answered_refused, answered_accepted}
 use Rattle.callers.specs.Caller.{unfit, fit}
 use Rattle.objects.specs.Fits.{fits_stores}
 use Rattle.objects.specs.Checked.{checked_passed, checked_refused}

@@ -4,7 +4,7 @@ use borrow.Author.Rules.{rules}
 use Rattle.model.specs.State.{State, is_made}
 use Rattle.model.proofs.Accepted.{Called}
 use Rattle.tables.specs.Decode.{state_of}
-use Rattle.tables.specs.Laws.{made_read}
+use Rattle.tables.proofs.Laws.{made_read}
 use Rattle.callers.specs.Caller.{thread_called}
 use Rattle.areas.specs.Make.{make_not_called, make_low, make_high, make_made, make_room}
 use Rattle.areas.proofs.make.check_make.Goals as goal

@@ -2,7 +2,7 @@
 use mathlib.Core.Path.{refl, sym, ◌∙◌}
 use Rattle.model.proofs.KeepsScopes.{good_make}
 use Rattle.tables.specs.Decode.{state_of}
-use Rattle.tables.specs.AnsweredLaws.{changed_refused, changed_accepted}
+use Rattle.tables.proofs.AnsweredLaws.{changed_refused, changed_accepted}
 use Rattle.areas.specs.Make.{make_passed, make_refused}
 use Rattle.areas.proofs.make.make_on.Goals as goal
 

@@ -1,7 +1,7 @@
 -- `callers::caller::check_thread` meets its contract. Assumes nothing.
 use mathlib.Core.Path.{sym, ◌∙◌}
 use borrow.Author.Rules.{rules}
-use Rattle.tables.specs.Laws.{kind_read}
+use Rattle.tables.proofs.Laws.{kind_read}
 use Rattle.tables.specs.Decode.{state_of}
 use Rattle.callers.specs.Caller.{no_thread_lem, not_started, started}
 use Rattle.callers.proofs.caller.check_thread.Goals as goal

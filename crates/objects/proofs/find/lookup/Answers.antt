@@ -9,7 +9,7 @@ use Rattle.layout.specs.Choice.{pick}
 use Rattle.layout.specs.HandleLaws.{area_lt}
 use Rattle.model.specs.declared.Area.{Area}
 use Rattle.model.specs.State.{State, Memory, is_scope}
-use Rattle.tables.specs.Laws.{area_read}
+use Rattle.tables.proofs.Laws.{area_read}
 use Rattle.tables.specs.Decode.{state_of}
 use Rattle.tables.specs.Contract.{memory_of}
 use Rattle.objects.specs.Found.{ends_of}

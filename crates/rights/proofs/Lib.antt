@@ -1,0 +1,2 @@
+-- The laws that callers use of the definitions of the rights table.
+pub mod Loading

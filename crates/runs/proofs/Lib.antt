@@ -1,0 +1,2 @@
+-- The laws that callers use of the lowest run.
+pub mod LowestRun
