@@ -418,6 +418,8 @@ def convert(fn, text):
                 text_ = rooted(fn, text_, root, back)
                 text_ = lemma_calls(fn, text_, root, fn.at.get(new), new, over)
             body = fn.body(fn.types(text_))
+            if new.startswith("shape_of-"):
+                body = re.sub(r"\.auto(?:\.\d+)+", ".auto." + new[9:].split("-")[0], body)
             if fn.mine and new.startswith("returns"):
                 body = as_record(body, fn.mine) or body
             m = re.match(r"(\w+)-(?:\w+-)?requires", new)
@@ -449,6 +451,8 @@ def convert(fn, text):
         ans += comments + fn.body(fn.types(text_)).split("\n") + [""]
     for g, binders, body in inline:
         binders = [x for x in binders if x != "κs"]
+        if g.startswith("shape_of-"):
+            body = re.sub(r"\.auto(?:\.\d+)+", ".auto." + g[9:].split("-")[0], body)
         if binders:
             body = lemma_calls(fn, rooted(fn, body, binders[0], back), binders[0], fn.at.get(g), g, over)
         ans += [f"pub {g} : goal.{g}", f"{g} {' '.join(binders)} = " + fn.body(fn.types(body)), ""]

@@ -22,12 +22,10 @@ fn answer_line(
     len: usize,
 ) -> Answer
     requires { (Ready words.old bytes.old) × (length line.now ≡ 40) }
-    ensures {
-        LineAnswered
+    ensures { LineAnswered
         (core words.old bytes.old permanent.old scratch.old map.old written.old)
         (core words.new bytes.new permanent.new scratch.new map.new written.new)
-        line.now len result
-    }
+        line.now len result }
 {
     let Parsed::Frame(f) = lines::frame::parse_line(line, len) else {
         return Answer {
@@ -55,12 +53,10 @@ pub fn end_line(
     at: usize,
 )
     requires { (Ready words.old bytes.old) × (length line.now ≡ 40) × (at + 19 ≤ length output.old) }
-    ensures {
-        Ended
+    ensures { Ended
         (core words.old bytes.old permanent.old scratch.old map.old written.old)
         (core words.new bytes.new permanent.new scratch.new map.new written.new)
-        line.now len output.old at output.new
-    }
+        line.now len output.old at output.new }
 {
     let a = answer_line(words, bytes, permanent, scratch, map, written, line, len);
     lines::answer::write_answer(output, at, a.status, a.value);

@@ -30,12 +30,10 @@ fn feed_byte(
     at: usize,
 ) -> Fed
     requires { (Ready words.old bytes.old) × (length line.old ≡ 40) × (at + 19 ≤ length output.old) }
-    ensures {
-        Feeds
+    ensures { Feeds
         (held (core words.old bytes.old permanent.old scratch.old map.old written.old) line.old len output.old at)
         (held (core words.new bytes.new permanent.new scratch.new map.new written.new) line.new result.len output.new result.written)
-        (b ∷ [])
-    }
+        (b ∷ []) }
 {
     if b == b'\n' {
         line_answers::end_line(
@@ -66,12 +64,10 @@ pub fn feed(
     output: &mut [u8],
 ) -> Fed
     requires { (Ready words.old bytes.old) × (length line.old ≡ 40) × (19 * length input.now ≤ length output.old) }
-    ensures {
-        Feeds
+    ensures { Feeds
         (held (core words.old bytes.old permanent.old scratch.old map.old written.old) line.old len output.old 0)
         (held (core words.new bytes.new permanent.new scratch.new map.new written.new) line.new result.len output.new result.written)
-        input.now
-    }
+        input.now }
 {
     let mut n = len;
     let mut at = 0;
@@ -103,11 +99,9 @@ pub fn finish(
     output: &mut [u8],
 ) -> usize
     requires { (Ready words.old bytes.old) × (length line.now ≡ 40) × (19 ≤ length output.old) }
-    ensures {
-        Finishes
+    ensures { Finishes
         (held (core words.old bytes.old permanent.old scratch.old map.old written.old) line.now len output.old 0)
-        (held (core words.new bytes.new permanent.new scratch.new map.new written.new) line.now 0 output.new result)
-    }
+        (held (core words.new bytes.new permanent.new scratch.new map.new written.new) line.now 0 output.new result) }
 {
     if len == 0 {
         return 0;
