@@ -24,7 +24,7 @@ use Rattle.tables.specs.Contract.{Ready, memory_of}
 use Rattle.callers.specs.Caller.{caller_refused, called_rest}
 use Rattle.model.proofs.PlacedWords.{supplied_lengths}
 use Rattle.objects.specs.Fits.{fits_stores}
-use Rattle.objects.specs.Places.{AreaWords, area_words_lem}
+use Rattle.objects.proofs.Places.{AreaWords, area_words_lem}
 use Rattle.stores.specs.Stores.{StoreWritten, stored_memory}
 
 -- refusals 5 and 12, from whether the thread may allocate in the area and from the area's record

@@ -17,8 +17,8 @@ use Rattle.objects.specs.declared.index.WordPlace.{WordPlace}
 use Rattle.objects.specs.Fits.{fits_stores}
 use Rattle.stores.specs.Stores.{StoreWritten}
 use Rattle.objects.specs.Indexed.{word_of}
-use Rattle.objects.specs.Statuses.{index_chain}
-use Rattle.objects.specs.Effects.{bit_in_lem, word_written}
+use Rattle.objects.proofs.Statuses.{index_chain}
+use Rattle.objects.proofs.Effects.{bit_in_lem, word_written}
 
 module _ (s : State) (m : Memory) (t p q : ℕ) where
   -- n is what check_index answers: where it refuses, the read is refused by it

@@ -3,7 +3,6 @@ pub mod Hexadecimal
 pub mod HexadecimalLaws
 pub mod Frames
 pub mod Lines
-pub mod FrameLaws
 pub mod LineLaws
 pub mod Answers
 pub mod AnswerLaws

@@ -1,11 +1,7 @@
--- The definitions that the contracts cite, and the laws that callers use of them.
+-- The definitions that the contracts cite, and laws of single chains of refusals.
 pub mod Fits
 pub mod Found
-pub mod Places
-pub mod Steps
 pub mod Checked
 pub mod Indexed
 pub mod Resolving
 pub mod Chains
-pub mod Statuses
-pub mod Effects

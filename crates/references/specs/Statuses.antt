@@ -17,10 +17,10 @@ use Rattle.tables.proofs.Laws.{area_read, row_read}
 use Rattle.objects.specs.declared.find.Resolved.{Resolved}
 use Rattle.objects.specs.declared.find.Found.TheVariants.{At, Nothing}
 use Rattle.objects.specs.Found.{found_of}
-use Rattle.objects.specs.Places.{at_live, nothing_live}
+use Rattle.objects.proofs.Places.{at_live, nothing_live}
 use Rattle.objects.specs.Chains.{Chain, chain_none, chain_more, chain_passed}
 use Rattle.objects.specs.declared.index.Part.TheVariants.{Slots}
-use Rattle.objects.specs.Statuses.{found_area, index_chain}
+use Rattle.objects.proofs.Statuses.{found_area, index_chain}
 
 -- ---- refusals 15 and 5: a target or a loaded word
 

@@ -1,4 +1,2 @@
--- The shown part: where it lies, and the laws of how it is found.
+-- The shown part: where it lies.
 pub mod PlacedView
-pub mod ViewLaws
-pub mod ViewAnswers

@@ -13,7 +13,7 @@ use Rattle.objects.specs.declared.index.Part.TheVariants.{Data}
 use Rattle.objects.specs.Fits.{fits_stores}
 use Rattle.layout.specs.Verdict.{verdict_passed, verdict_stopped}
 use Rattle.objects.specs.Indexed.{word_of, indexed_cases}
-use Rattle.objects.specs.Effects.{word_in, word_read}
+use Rattle.objects.proofs.Effects.{word_in, word_read}
 use Rattle.data.specs.Written.{read_no_word, written_in, read_unwritten, read_written}
 use Rattle.data.proofs.read.Goals as goal
 use Rattle.data.proofs.read.Goals.{Else-refusal-ne0, In-At}

@@ -12,7 +12,7 @@ use Rattle.objects.specs.declared.index.Part.TheVariants.{Data}
 use Rattle.objects.specs.Fits.{fits_stores}
 use Rattle.layout.specs.Verdict.{verdict_passed, verdict_stopped}
 use Rattle.objects.specs.Indexed.{word_of, indexed_cases}
-use Rattle.objects.specs.Effects.{word_in}
+use Rattle.objects.proofs.Effects.{word_in}
 use Rattle.data.specs.Written.{written_in, written_word}
 use Rattle.data.proofs.write.Goals as goal
 use Rattle.data.proofs.write.Goals.{Else-refusal-ne0, In-At}

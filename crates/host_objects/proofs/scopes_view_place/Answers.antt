@@ -1,6 +1,6 @@
 -- `scopes_view_place` meets its contract: the place that is told answers both calls.
 use Rattle.tables.specs.Contract.{memory_of}
-use Rattle.views.specs.ViewAnswers.{place_shows, place_tells}
+use Rattle.views.proofs.ViewAnswers.{place_shows, place_tells}
 use Rattle.host_objects.proofs.scopes_view_place.Goals as goal
 
 pub returns : goal.returns

@@ -13,7 +13,7 @@ use Rattle.tables.specs.Contract.{memory_of}
 use Rattle.objects.specs.declared.index.Part.TheVariants.{Slots}
 use Rattle.layout.specs.Verdict.{passed_verdict, stopped_verdict, verdict_passed, verdict_stopped}
 use Rattle.objects.specs.Indexed.{word_of, indexed_cases}
-use Rattle.objects.specs.Effects.{word_area}
+use Rattle.objects.proofs.Effects.{word_area}
 use Rattle.references.specs.Statuses.{store_no_slot, store_no_reference, store_forbidden, store_allowed}
 use mathlib.Core.Bool.{not}
 use Rattle.references.proofs.check_store.Goals as goal

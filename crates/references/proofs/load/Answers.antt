@@ -12,7 +12,7 @@ use Rattle.objects.specs.declared.index.Part.TheVariants.{Slots}
 use Rattle.objects.specs.Fits.{fits_stores}
 use Rattle.layout.specs.Verdict.{verdict_passed, verdict_stopped}
 use Rattle.objects.specs.Indexed.{word_of, indexed_cases}
-use Rattle.objects.specs.Effects.{word_in, word_read}
+use Rattle.objects.proofs.Effects.{word_in, word_read}
 use Rattle.references.specs.Statuses.{load_no_slot, load_slot}
 use Rattle.references.proofs.load.Goals as goal
 use Rattle.references.proofs.load.Goals.{After-check_reference-status, After-word_at-x, Else-refusal-ne0, In-At}

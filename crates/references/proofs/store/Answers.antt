@@ -12,7 +12,7 @@ use Rattle.objects.specs.declared.index.Part.TheVariants.{Slots}
 use Rattle.objects.specs.Fits.{fits_stores}
 use Rattle.layout.specs.Verdict.{verdict_passed, verdict_stopped}
 use Rattle.objects.specs.Indexed.{word_of, indexed_cases}
-use Rattle.objects.specs.Effects.{word_in, word_written}
+use Rattle.objects.proofs.Effects.{word_in, word_written}
 use Rattle.references.specs.Statuses.{store_slot}
 use Rattle.references.proofs.store.Goals as goal
 use Rattle.references.proofs.store.Goals.{Else-refusal-ne0, In-At}

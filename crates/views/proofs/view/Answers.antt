@@ -4,8 +4,8 @@ use Rattle.tables.specs.Decode.{state_of}
 use Rattle.tables.specs.Contract.{memory_of}
 use Prim.Native.Nat.{◌+◌, ◌≤◌}
 use native.Mathlib.Omega.{arith}
-use Rattle.views.specs.ViewLaws.{place_low, permanent_end, scratch_end, view_permanent, view_scratch}
-use Rattle.views.specs.ViewAnswers.{view_answered}
+use Rattle.views.proofs.ViewLaws.{place_low, permanent_end, scratch_end, view_permanent, view_scratch}
+use Rattle.views.proofs.ViewAnswers.{view_answered}
 use Rattle.views.proofs.view.Goals as goal
 use Rattle.views.proofs.view.Goals.{After-view_place-place}
 

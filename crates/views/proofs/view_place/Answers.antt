@@ -9,7 +9,7 @@ use Rattle.tables.specs.Decode.{state_of}
 use Rattle.tables.specs.Contract.{memory_of}
 use Rattle.callers.specs.Caller.{unfit, fit}
 use Rattle.objects.specs.Fits.{fits_stores}
-use Rattle.views.specs.ViewLaws.{place_refused, refused_1, past_1, view_placed, start_low}
+use Rattle.views.proofs.ViewLaws.{place_refused, refused_1, past_1, view_placed, start_low}
 use mathlib.Core.Bool.{not}
 use mathlib.Core.Path.{ap}
 use Rattle.views.proofs.view_place.Goals as goal

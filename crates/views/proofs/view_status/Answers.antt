@@ -11,7 +11,7 @@ use Rattle.tables.proofs.AnsweredLaws.{answered_refused, answered_accepted}
 use Rattle.callers.specs.Caller.{unfit, fit}
 use Rattle.objects.specs.Fits.{fits_stores}
 use Rattle.objects.specs.Checked.{checked_passed, checked_refused}
-use Rattle.views.specs.ViewLaws.{refused_1, past_1}
+use Rattle.views.proofs.ViewLaws.{refused_1, past_1}
 use mathlib.Core.Bool.{not}
 use mathlib.Core.Path.{ap}
 use Rattle.views.proofs.view_status.Goals as goal

@@ -2,7 +2,7 @@
 use mathlib.Core.Path.{sym, ap, ◌∙◌}
 use borrow.Author.Tests.{not-true, not-false}
 use Rattle.model.specs.Ops.{op_of}
-use Rattle.lines.specs.FrameLaws.{other_length, no_digits, no_op, not_zero, a_frame}
+use Rattle.lines.proofs.FrameLaws.{other_length, no_digits, no_op, not_zero, a_frame}
 use borrow.Author.Rules.{rules}
 use mathlib.Core.Bool.{not}
 use Rattle.lines.proofs.frame.parse_line.Goals as goal

@@ -1,7 +1,7 @@
 -- `unused_zero` meets its contract: one law for each way that its tests end.
 use mathlib.Core.Path.{sym, ◌∙◌}
 use borrow.Author.Tests.{not-true, not-false}
-use Rattle.lines.specs.FrameLaws.{p_not_zero, q_not_zero, r_decides}
+use Rattle.lines.proofs.FrameLaws.{p_not_zero, q_not_zero, r_decides}
 use mathlib.Core.Bool.{not}
 use mathlib.Core.Path.{ap}
 use Rattle.lines.proofs.frame.unused_zero.Goals as goal

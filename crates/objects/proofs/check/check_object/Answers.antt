@@ -9,9 +9,9 @@ use Rattle.tables.specs.Decode.{state_of}
 use Rattle.tables.specs.Contract.{memory_of}
 use Rattle.objects.specs.declared.find.Found.TheVariants.{At}
 use Rattle.objects.specs.Found.{found_of}
-use Rattle.objects.specs.Places.{at_live}
+use Rattle.objects.proofs.Places.{at_live}
 use Rattle.objects.specs.Checked.{passed_checked, refused_checked}
-use Rattle.objects.specs.Statuses.{use_nothing, use_no_right, use_right}
+use Rattle.objects.proofs.Statuses.{use_nothing, use_no_right, use_right}
 use mathlib.Core.Bool.{not}
 use mathlib.Core.Path.{ap}
 use Rattle.objects.proofs.check.check_object.Goals as goal

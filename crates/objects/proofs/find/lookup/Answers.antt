@@ -13,8 +13,8 @@ use Rattle.tables.proofs.Laws.{area_read}
 use Rattle.tables.specs.Decode.{state_of}
 use Rattle.tables.specs.Contract.{memory_of}
 use Rattle.objects.specs.Found.{ends_of}
-use Rattle.objects.specs.Places.{refused_as}
-use Rattle.objects.specs.Steps.{HandleRead, other_generation, past_used, word_low, word_in, bit_fits, bit_in_lem, no_bit, ends}
+use Rattle.objects.proofs.Places.{refused_as}
+use Rattle.objects.proofs.Steps.{HandleRead, other_generation, past_used, word_low, word_in, bit_fits, bit_in_lem, no_bit, ends}
 use Rattle.objects.proofs.find.lookup.Goals as goal
 use Rattle.objects.proofs.find.lookup.Goals.{After-area_at-used, After-area_at-x, After-offset-offset, Else-bit-eq0, Else-used-offset}
 

@@ -1,7 +1,7 @@
 -- `whole` meets its contract: the header's sizes are below 16,384, so no sum wraps.
 use native.Mathlib.Omega.{arith}
 use Rattle.layout.specs.HandleLaws.{slots_lt, data_lt}
-use Rattle.objects.specs.Steps.{ends_at, ends_out}
+use Rattle.objects.proofs.Steps.{ends_at, ends_out}
 use Rattle.objects.proofs.find.whole.Goals as goal
 
 pub overflow_add-slots : goal.overflow_add-slots

@@ -12,8 +12,8 @@ use Rattle.objects.specs.Found.{object_of}
 use Rattle.objects.specs.Checked.{checked_passed, checked_refused}
 use Rattle.layout.specs.Verdict.{passed_verdict, stopped_verdict}
 use Rattle.objects.specs.Indexed.{part_count, part_start, indexed_cases}
-use Rattle.objects.specs.Statuses.{index_not_used, index_past, index_in}
-use Rattle.objects.specs.Effects.{word_low, bit_low, word_place}
+use Rattle.objects.proofs.Statuses.{index_not_used, index_past, index_in}
+use Rattle.objects.proofs.Effects.{word_low, bit_low, word_place}
 use Rattle.objects.proofs.index.check_index.Goals as goal
 use Rattle.objects.proofs.index.check_index.Goals.{After-check_object, Else-count-q, In-Passed, Start}
 

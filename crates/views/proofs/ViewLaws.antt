@@ -19,11 +19,11 @@ use Rattle.model.proofs.Accepted.{admitted, use_ok}
 use Rattle.model.proofs.Outcomes.{unfit_fitted, fit_fitted}
 use Rattle.objects.specs.declared.find.Resolved.{Resolved}
 use Rattle.objects.specs.Found.{object_of}
-use Rattle.objects.specs.Places.{Lies}
+use Rattle.objects.proofs.Places.{Lies}
 use Rattle.views.specs.declared.ViewPlace.{ViewPlace}
-use Rattle.objects.specs.Statuses.{area_is, data_words_is}
+use Rattle.objects.proofs.Statuses.{area_is, data_words_is}
 use Rattle.objects.specs.Fits.{fits_stores}
-use Rattle.objects.specs.Effects.{place_is, index_is, object_lies}
+use Rattle.objects.proofs.Effects.{place_is, index_is, object_lies}
 use Rattle.objects.specs.declared.check.Checked.{Checked}
 use Rattle.objects.specs.declared.check.Checked.TheVariants.{Passed, Refused}
 use Rattle.objects.specs.Checked.{checked_of, checked_passed, checked_refused}

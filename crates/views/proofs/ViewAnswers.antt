@@ -13,7 +13,7 @@ use Rattle.tables.specs.Contract.{Ready, plain, view_reply, Answered}
 use Rattle.tables.proofs.AnsweredLaws.{answered_refused, answered_accepted}
 use Rattle.views.specs.declared.ViewPlace.{ViewPlace}
 use Rattle.views.specs.PlacedView.{view_place_of, words_there}
-use Rattle.views.specs.ViewLaws.{there_is}
+use Rattle.views.proofs.ViewLaws.{there_is}
 
 module _ (w b : List ℕ) (m : Memory) (t p : ℕ) (y : Ready w b) where
   -- the view, by the words that it gives

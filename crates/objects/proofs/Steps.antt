@@ -19,7 +19,7 @@ use Rattle.objects.specs.declared.find.Found.TheVariants.{At, Nothing}
 use Rattle.stores.specs.Stores.{pick_most}
 use Rattle.objects.specs.Fits.{StoresFitIn}
 use Rattle.objects.specs.Found.{object_of, found_of, ends_of}
-use Rattle.objects.specs.Places.{AreaWords, area_words_lem, found_at, found_nothing}
+use Rattle.objects.proofs.Places.{AreaWords, area_words_lem, found_at, found_nothing}
 
 -- ---- the last step
 

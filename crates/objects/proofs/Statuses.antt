@@ -21,7 +21,7 @@ use Rattle.objects.specs.declared.index.Part.{Part}
 use Rattle.objects.specs.declared.index.Part.TheVariants.{Slots, Data}
 use Rattle.objects.specs.Found.{object_of, found_of}
 use Rattle.objects.specs.Indexed.{part_count, index_rest}
-use Rattle.objects.specs.Places.{at_live, nothing_live, object_live}
+use Rattle.objects.proofs.Places.{at_live, nothing_live, object_live}
 use Rattle.objects.specs.Chains.{Chain, chain_none, chain_more}
 
 -- ---- the fields of the object that a handle leads to

@@ -16,10 +16,10 @@ use Rattle.objects.specs.declared.index.Part.TheVariants.{Slots, Data}
 use Rattle.objects.specs.declared.index.WordPlace.{WordPlace}
 use Rattle.objects.specs.Fits.{StoresFitIn}
 use Rattle.objects.specs.Found.{object_of}
-use Rattle.objects.specs.Places.{Lies, lies}
+use Rattle.objects.proofs.Places.{Lies, lies}
 use Rattle.stores.specs.Stores.{StoreWritten, stored_memory}
 use Rattle.objects.specs.Indexed.{part_count, part_start, index_rest, word_index, word_of}
-use Rattle.objects.specs.Statuses.{area_is, slots_is, index_ok}
+use Rattle.objects.proofs.Statuses.{area_is, slots_is, index_ok}
 
 -- ---- the object
 
