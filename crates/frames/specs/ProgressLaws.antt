@@ -1,6 +1,6 @@
 -- Laws of progress: a round more, and the end of a run.
 -- Assumes nothing.
-use Rattle.std.specs.Prelude.{ℕ, zero, suc, ◌+◌, ◌*◌, ◌≤◌, ◌<◌, ◌≡◌, refl, Bool, true, false, List, [], ◌∷◌, ◌++◌, leb, length, take}
+use Rattle.std.specs.Prelude.{ℕ, ◌+◌, ◌*◌, ◌≤◌, ◌<◌, ◌≡◌, refl, true, false, List, [], ◌∷◌, ◌++◌, leb, length, take}
 use Rattle.std.proofs.Common.{arith, sym, subst, true≢false, append_assoc, append-nil, leb-true, leb-false, length-append, length-take-le}
 use Rattle.line_answers.specs.Output.{first_world}
 use Rattle.reader.specs.Feeding.{joined}
@@ -8,8 +8,7 @@ use Rattle.line_answers.specs.Answered.{Core, Represents}
 use Rattle.reader.specs.Held.{held, Feeds, Finishes}
 use Rattle.reader.specs.Program.{FedChunks, none, more}
 use Rattle.rounds.specs.Steps.{Read, read, unread, Wrote, wrote, unwritten}
-use Rattle.frames.specs.declared.Ended.{Ended}
-use Rattle.frames.specs.Progress.{all_steps, reserve, Spent, spent, failed, Stopped, at_end, too_few, Continues, Last, no_chunk, last_chunk, Progress, Ran}
+use Rattle.frames.specs.Progress.{all_steps, reserve, Spent, spent, failed, Stopped, at_end, too_few, Continues, no_chunk, last_chunk, Progress, Ran}
 
 -- ---- whether another round follows
 

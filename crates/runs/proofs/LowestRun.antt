@@ -1,7 +1,7 @@
 -- Laws of the lowest run: a run by its numbers, and what the definition answers is the start of the lowest one.
 -- Assumes nothing.
 use Prim.Native.Nat.{ℕ, zero, suc, ◌+◌, ◌-◌, ◌≤◌, ◌<◌}
-use Rattle.std.specs.Prelude.{Bool, true, List, ◌≡◌, ◌≢◌, eqb, ltb}
+use Rattle.std.specs.Prelude.{Bool, true, ◌≡◌, ◌≢◌, eqb, ltb}
 use Rattle.std.proofs.Math.Bool.{false}
 use Rattle.std.proofs.Common.{true≢false, sym, ◌∙◌}
 use Rattle.std.proofs.Math.Path.{refl}

@@ -1,14 +1,10 @@
 -- The lowest run of numbers that pass a test.
 -- Assumes nothing.
 use Prim.Native.Nat.{ℕ, zero, suc, ◌+◌, ◌-◌, ◌≤◌, ◌<◌}
-use Rattle.std.specs.Prelude.{Bool, true, List, ◌≡◌, ◌≢◌, eqb, ltb}
+use Rattle.std.specs.Prelude.{Bool, true, List, ◌≡◌, ◌≢◌, eqb}
 use Rattle.std.proofs.Math.Bool.{false}
-use Rattle.std.proofs.Common.{true≢false, sym, ◌∙◌}
-use Rattle.std.proofs.Math.Path.{refl}
-use native.Mathlib.Omega.{arith}
-use borrow.Author.Tests.{eqb-true, eqb-false, ltb-true, ltb-false}
-use Rattle.layout.specs.Choice.{pick, cases}
-use Rattle.layout.specs.Below.{all_below, all_each, each_all}
+use Rattle.layout.specs.Choice.{pick}
+use Rattle.layout.specs.Below.{all_below}
 use Rattle.bitmap.specs.Bitmap.{bit_at}
 
 -- ---- definitions

@@ -3,11 +3,11 @@
 use Rattle.std.specs.Prelude.{List, [], ◌≡◌, ℕ, eqb}
 use Rattle.layout.specs.Choice.{pick}
 use Rattle.layout.specs.declared.answer.Answer.{Answer}
-use Rattle.model.specs.State.{State, Memory}
+use Rattle.model.specs.State.{Memory}
 use Rattle.model.specs.Checks.{Change}
 use Rattle.model.specs.Calls.{Call, Reply, outcome_of}
 use Rattle.model.specs.Invariant.{Good}
-use Rattle.tables.specs.Decode.{state_of, Shaped, Holds}
+use Rattle.tables.specs.Decode.{state_of, Shaped}
 
 -- the four lent buffers, at one moment
 abbrev pub memory_of : List ℕ → List ℕ → List ℕ → List ℕ → Memory

@@ -1,6 +1,5 @@
 -- `all_digits` meets its contract. The invariant: all are digits if those so far are, and the rest.
 use mathlib.Core.Path.{refl}
-use Prim.Native.Nat.{◌-◌}
 use native.Mathlib.Omega.{arith}
 use borrow.Author.Rules.{rules}
 use Rattle.lines.specs.HexadecimalLaws.{one_further, all_read}

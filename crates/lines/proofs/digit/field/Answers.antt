@@ -1,6 +1,5 @@
 -- `field` meets its contract. The invariant: the value is that of the digits passed, below 16^i.
 use mathlib.Core.Path.{◌≡◌, sym}
-use Prim.Native.Nat.{◌-◌}
 use native.Mathlib.Omega.{arith}
 use native.Mathlib.Numerals.{add-one}
 use borrow.Author.Rules.{rules}
