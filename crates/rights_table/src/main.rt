@@ -16,7 +16,7 @@ ghost use Rattle.rights_table.specs.Counts.{IsPrefixLen};
 ghost use Rattle.generator.specs.Generator.{generated};
 
 use std::env::FillError;
-use std::io::Read;
+use std::io::{Error, ErrorKind, Read};
 use std::rt::{Env, Stderr, Stdin, Stdout};
 
 // One more read, behind the first n bytes of the input: how many bytes there are now. At the end of
@@ -49,13 +49,21 @@ fn read_input(stdin: Stdin, stderr: Stderr, input: &mut [u8]) -> usize
     n
 }
 
+// Tells that the digits cannot be written. Where their reader has closed the pipe there is nobody to
+// tell.
+fn tell_unwritten(stderr: Stderr, error: Error) {
+    if error.kind() != ErrorKind::BrokenPipe {
+        let _ = stderr.eprintln("rights_table: the digits cannot be written");
+    }
+}
+
 // Writes what is generated from an input, which only the contract looks at. If not all of it is
 // written, standard error says so.
 fn write_digits(stdout: Stdout, stderr: Stderr, digits: &[u8], input: &[u8])
     requires { digits.now ≡ generated input.now }
 {
-    if stdout.write_all(digits).is_err() {
-        let _ = stderr.eprintln("rights_table: the digits cannot be written");
+    if let Err(error) = stdout.write_all(digits) {
+        tell_unwritten(stderr, error);
     }
 }
 

@@ -24,7 +24,7 @@ ghost use Rattle.reader.specs.Held.{Feeds, Finishes, held};
 use lines::line::Text;
 use reader::feed::Fed;
 use std::env::FillError;
-use std::io::Read;
+use std::io::{Error, ErrorKind, Read};
 use std::rt::{Env, Stderr, Stdin, Stdout};
 use tables::{Bytes, Words};
 
@@ -81,6 +81,14 @@ pub fn read_chunk(mut streams: Streams, input: &mut [u8], steps: &mut usize) -> 
     n
 }
 
+// Tells that the answers cannot be written. Where their reader has closed the pipe there is nobody to
+// tell.
+fn tell_unwritten(stderr: Stderr, error: Error) {
+    if error.kind() != ErrorKind::BrokenPipe {
+        let _ = stderr.eprintln("frames: the answers cannot be written");
+    }
+}
+
 // Writes the first n bytes of the output. It takes a step for each and one more. If not all are
 // written, standard error says so, and no step is left.
 fn write_answers(streams: Streams, output: &Output, n: usize, steps: &mut usize)
@@ -88,10 +96,8 @@ fn write_answers(streams: Streams, output: &Output, n: usize, steps: &mut usize)
     ensures { Wrote steps.old steps.new n }
 {
     let all: &[u8] = output;
-    if streams.stdout.write_all(&all[..n]).is_err() {
-        let _ = streams
-            .stderr
-            .eprintln("frames: the answers cannot be written");
+    if let Err(error) = streams.stdout.write_all(&all[..n]) {
+        tell_unwritten(streams.stderr, error);
         *steps = 0;
         return;
     }

@@ -1,4 +1,4 @@
-// A small host in Rattle over the exported functions: what it holds at the end is promised to be what
+// A small host in Rattle over the functions that `host_c` exports: what it holds at the end is promised to be what
 // the theorem over every list speaks of. So the theorem's hypotheses are met by real calls.
 #![tactic(auto)]
 
