@@ -14,7 +14,7 @@
  * scopes and no others, and no two made scopes share a word; no reference outlives its object; a dead handle is never
  * accepted again, also where its scope is removed and made again; and a read of a live handle, by a thread with right U, at
  * an index below the object's data words gives the last word accepted for that handle and index, or SCOPES_UNWRITTEN if
- * there is none since the object was made (the theorem `served-claims`, crates/served). Not covered: the compiler's back
+ * there is none since the object was made (the theorem `served_claims`, crates/served). Not covered: the compiler's back
  * end, the few lines of C below, and a host that breaks these rules.
  *
  * What the caller owes. A proof about these functions rests on it, and C cannot check it:
