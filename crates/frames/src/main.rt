@@ -7,7 +7,7 @@
 // (`specs/Progress.antt`). So what is handed over is the answers to what was read, from the first world
 // on (`specs/Whole.antt`).
 //
-// What is not proved, and has to be read: the bodies of the two functions that call the system, as is
+// What is not proved, and has to be read: the bodies of the functions that call the system, as is
 // said in `rounds`; and that no function here changes `steps` or the input, but by the calls of
 // `rounds`. None but `main` can call the system by itself: only it is given the runtime, and the
 // `Streams` that the others are given are used by `rounds` alone (docs/DECISIONS.md, 51).

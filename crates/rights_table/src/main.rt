@@ -5,10 +5,11 @@
 // these; there are never more than 13, and the reads end; and what is written is what the generator
 // prints for the input that `answer` is given.
 //
-// What is not proved, and has to be read: the bodies of the two functions that call the system,
-// `read_more` and `write_digits`, since no contract says which bytes `read` gave and `write_all` took;
-// and in `run`, that the input to answer is all that was read. By their types, `read_input` can write
-// nothing to standard output, and `answer` reads nothing: neither is given the handle for it.
+// What is not proved, and has to be read: the bodies of the functions that call the system,
+// `read_more` and `write_digits` with `tell_unwritten`, since no contract says which bytes `read` gave
+// and `write_all` took; and in `run`, that the input to answer is all that was read. By their types,
+// `read_input` can write nothing to standard output, and `answer` reads nothing: neither is given the
+// handle for it.
 #![tactic(auto)]
 
 ghost use Rattle.std.specs.Prelude.{◌≡◌, ◌≤◌, length, take};

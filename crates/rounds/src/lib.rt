@@ -6,12 +6,12 @@
 // answers are handed whole and once to `write_answers`; the rest likewise. A read and a write take as
 // many steps as `specs/Steps.antt` says.
 //
-// What is not proved, and has to be read: the bodies of the two functions that call the system,
-// `read_chunk` and `write_answers`, beyond their numbers of bytes and steps, since no contract says
-// which bytes `read` gave and `write_all` took; and that no other function uses the `Streams` that it
-// is given but to hand them to `write_answers`, or changes `steps` (docs/DECISIONS.md, 51), but
-// `refuses_arguments`, which is called before anything is read. None but `read_chunk` can change the
-// input, by its type.
+// What is not proved, and has to be read: the bodies of the functions that call the system,
+// `read_chunk` and `write_answers` with `tell_unwritten`, beyond their numbers of bytes and steps,
+// since no contract says which bytes `read` gave and `write_all` took; and that no other function uses
+// the `Streams` that it is given but to hand them to `write_answers`, or changes `steps`
+// (docs/DECISIONS.md, 51), but `refuses_arguments`, which is called before anything is read. None but
+// `read_chunk` can change the input, by its type.
 #![tactic(auto)]
 
 ghost use Rattle.std.specs.Prelude.{◌≡◌, ◌*◌, ◌≤◌, ◌<◌, length, take};
