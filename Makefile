@@ -23,7 +23,7 @@ picture:
 rights:
 	@scripts/rights $${TABLE:+"$$TABLE"}
 
-# Runs all tests, as the gate does. Each crate is proved from nothing, each must-fail edit tried, the programs are compared
+# Runs all tests, as the gate does. Each crate is proved, each must-fail edit tried (but what `rt` kept of the same files), the programs are compared
 # with the second implementation, the archive is tried from C and Rust. The last line is 'N passed, 0 failed'.
 test:
 	@scripts/test
