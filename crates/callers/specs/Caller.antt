@@ -8,7 +8,7 @@ use borrow.Author.Tests.{le-leb, lt-leb, lt-ltb, le-ltb, eq-eqb, ne_eqb, not-tru
 use Rattle.layout.specs.Choice.{refuse, refuse_first, cases}
 use Rattle.model.specs.declared.Lengths.{Lengths}
 use Rattle.model.specs.State.{State, Memory, thread_at}
-use Rattle.model.specs.Checks.{fits, is_started, called, admit}
+use Rattle.model.specs.Checks.{fits, fitted, is_started, called, admit}
 use Rattle.model.proofs.Accepted.{Called, called_ok, Admitted, admitted}
 use Rattle.model.proofs.Outcomes.{unfit_fitted, fit_fitted}
 use Rattle.tables.specs.Decode.{state_of, lengths_record}
@@ -48,13 +48,23 @@ module _ (w b : List ℕ) (m : Memory) (o : Lengths) (e : o ≡ lengths_record w
           ap (λ (l : Lengths). eqb (length m.written) l.map) (i ∙ sym g)
           ∙ sym (past_stores ∙ rw (eq-eqb (length m.map) k.map h) refl)
 
--- r is what lengths_fit answers
-module _ (s : State) (m : Memory) {r : Bool} (e : r ≡ fits s m) where
-  pub unfit : not r ≡ true → fits s m ≡ false
-  unfit h = sym e ∙ not-true r h
+-- refusal 1 by the test of the lengths, and the rest of a call's refusals after it
+module _ (s : State) (m : Memory) where
+  -- r is what lengths_fit answers
+  pub unfit : {r : Bool} → r ≡ fits s m → not r ≡ true → 1 ≡ fitted s m 0
+  unfit {r} e h = sym (unfit_fitted s m (sym e ∙ not-true r h) 0)
 
-  pub fit : not r ≡ false → fits s m ≡ true
-  fit h = sym e ∙ not-false r h
+  pub fit : {r : Bool} → r ≡ fits s m → not r ≡ false → 0 ≡ fitted s m 0
+  fit {r} e h = sym (fit_fitted s m (sym e ∙ not-false r h) 0)
+
+  -- n is what check_lengths answers: where it refuses, the call is refused by it
+  pub lengths_refused : {n : ℕ} → n ≡ fitted s m 0 → n ≢ 0 → (rest : ℕ) → n ≡ fitted s m rest
+  unfolding fitted
+  lengths_refused e h rest = e ∙ refuse_first (not (fits s m)) 1 (λ z. absurd (z refl)) (λ z. h (e ∙ z))
+
+  -- where it does not, they are those of set-up
+  pub lengths_passed : 0 ≡ fitted s m 0 → fits s m ≡ true
+  lengths_passed e = cases (fits s m) (λ f. f) (λ u. absurd (omega (arith, e ∙ unfit_fitted s m u 0)))
 
 -- ---- the thread
 

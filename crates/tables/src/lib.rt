@@ -7,6 +7,28 @@
 // as of it, row 32 + a the display of area a; behind the rows come the 36 digits of the rights table.
 #![tactic(auto)]
 
+use std::marker::Model;
+
+// ---- the buffers
+
+// The four buffers of a host, as a call reads them. What a call writes it is given by itself.
+#[derive(Drop)]
+pub struct Buffers<'a> {
+    pub permanent: &'a [u64],
+    pub scratch: &'a [u64],
+    pub map: &'a [u64],
+    pub written: &'a [u64],
+}
+
+impl<'a> Model for Buffers<'a> {
+    ghost use Rattle.model.specs.State.{Memory};
+    ghost use Rattle.tables.specs.Contract.{memory_of};
+
+    ghost Value = { Memory };
+
+    ghost view = { λ b. memory_of b.permanent.now b.scratch.now b.map.now b.written.now };
+}
+
 // ---- records
 
 // The words of a thread: its kind, 0 where it is not started, and how many entries its stack has.
