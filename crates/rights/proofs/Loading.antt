@@ -1,6 +1,6 @@
 -- Which tables may be loaded: the test and the meaning say the same; and the constant table is one of them.
 -- Assumes nothing.
-use Prim.Native.Nat.{ℕ, ◌+◌, ◌-◌, ◌*◌, ◌/◌, ◌%◌, ◌≤◌, ◌<◌}
+use Prim.Native.Nat.{ℕ, ◌+◌, ◌-◌, ◌*◌, ◌/◌, ◌%◌, ◌≤◌, ◌<◌, min}
 use Rattle.std.proofs.Common.{arith, ◌∙◌}
 use Rattle.std.proofs.Math.Bool.{true}
 use Rattle.std.specs.Prelude.{List, ◌≡◌, ◌⊎◌, ◌↔◌, length}
@@ -21,13 +21,13 @@ class_below Heap = omega arith
 class_below Immortal = omega arith
 class_below Scope = omega arith
 
--- the class that has place n
-class_at : (n : ℕ) → n < 3 → class_index (class_of n) ≡ n
+-- the place of the class of area n; so n is the place of a class if it is below 3
+pub class_place : (n : ℕ) → class_index (class_of n) ≡ min n 2
 unfolding class_of
-class_at n h = cases (eqb n 0)
-    (λ e. rw e (sym (eqb-true n 0 e)))
+class_place n = cases (eqb n 0)
+    (λ e. rw (e, eqb-true n 0 e) refl)
     (λ e. cases (eqb n 1)
-    (λ f. rw (e, f) (sym (eqb-true n 1 f)))
+    (λ f. rw (e, f, eqb-true n 1 f) refl)
     (λ f. let a : n ≡ 0 → ⊥ = eqb-false n 0 e in let b : n ≡ 1 → ⊥ = eqb-false n 1 f in rw (e, f) (omega arith)))
 
 module _ (table : List ℕ) where
@@ -83,7 +83,7 @@ module _ (table : List ℕ) where
       uses g h =
           let kind : ℕ = g / 3 + 1 in
           let class : Class = class_of (g % 3) in
-          let at : (r : ℕ) → (kind - 1) * 12 + class_index class * 4 + r ≡ g * 4 + r = λ r. omega (arith, class_at (g % 3) (omega arith)) in
+          let at : (r : ℕ) → (kind - 1) * 12 + class_index class * 4 + r ≡ g * 4 + r = λ r. omega (arith, class_place (g % 3)) in
           ⊎_elim
           (λ z. rw z refl)
           (λ z.

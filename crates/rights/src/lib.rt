@@ -1,9 +1,55 @@
-// The rights table: 36 text digits, read by kind, class of area and right. Here are the constant table
-// and the place of a right in any table.
+// The rights table: 36 text digits, read by kind, class of area and right. Here are the kinds of threads,
+// the constant table and the place of a right in any table.
 #![tactic(auto)]
 
-ghost use Rattle.std.specs.Prelude.{◌≡◌, ◌<◌, ◌≤◌};
-ghost use Rattle.rights.specs.Rights.{class_of, class_index, right_index, table_size, place_of, built_in};
+ghost use Rattle.std.specs.Prelude.{◌≡◌, ℕ, ◌<◌, SomeIff};
+ghost use Rattle.rights.specs.Rights.{class_of, class_index, table_size, place_of, built_in};
+ghost use Rattle.rights.specs.Kinds.{IsKind};
+
+use std::marker::Model;
+
+// A kind of threads: 1 ordinary, 2 real-time, 3 no-heap. A contract sees it as its number.
+#[derive(Clone, Copy)]
+pub struct Kind {
+    number: u64,
+}
+
+impl Model for Kind {
+    ghost Value = { ℕ };
+
+    ghost view = { λ kind. kind.number };
+
+    ghost invariant = { λ kind. IsKind kind.number };
+
+    ghost inverse = { λ n. record { number = n } };
+}
+
+impl Kind {
+    // The kind with a number, if there is one.
+    pub fn new(number: u64) -> Option<Kind>
+        ensures { SomeIff result (IsKind number) number }
+    {
+        match number {
+            1..=3 => Some(Kind { number }),
+            _ => None
+        }
+    }
+
+    // The kind with a number that is known to be a kind's.
+    pub fn of(number: u64) -> Kind
+        requires { IsKind number }
+        ensures { result ≡ number }
+    {
+        Kind { number }
+    }
+
+    pub fn number(self) -> u64
+        ensures value { result ≡ self }
+        ensures within { IsKind result }
+    {
+        self.number
+    }
+}
 
 // What a thread may do: enter an area, allocate in it, use an object of it, store or load a
 // reference to one.
@@ -36,33 +82,15 @@ fn class_index(area: u64) -> usize
     ensures place { result ≡ class_index (class_of area) }
     ensures within { result < 3 }
 {
-    if 2 <= area {
-        return 2;
-    }
-    area as usize
-}
-
-// The place of a right among the four of a class.
-fn right_index(right: Right) -> usize
-    ensures place { result ≡ right_index right }
-    ensures within { result < 4 }
-{
-    match right {
-        Right::Enter => 0,
-        Right::Allocate => 1,
-        Right::Use => 2,
-        Right::Refer => 3
-    }
+    area.min(2) as usize
 }
 
 // The place in a table of a right that threads of a kind may have in an area.
-pub fn place(kind: u64, area: u64, right: Right) -> usize
-    requires { (0 < kind) × (kind ≤ 3) }
+pub fn place(kind: Kind, area: u64, right: Right) -> usize
     ensures place { result ≡ place_of kind (class_of area) right }
     ensures within { result < table_size }
 {
-    let row = (kind - 1) as usize;
+    let row = (kind.number - 1) as usize;
     let column = class_index(area);
-    let place = right_index(right);
-    row * 12 + column * 4 + place
+    row * 12 + column * 4 + right as usize
 }

@@ -1,8 +1,8 @@
--- `is_digit` meets its contract: it is computed as its definition says.
-use mathlib.Core.Path.{refl}
+-- `is_digit` meets its contract: the method and the pattern test the two ranges of the definition.
+use Rattle.std.proofs.Common.{rules}
 use Rattle.hexadecimal.specs.Digit.{is_digit}
 use Rattle.hexadecimal.proofs.is_digit.Goals as goal
 
 pub returns : goal.returns
 unfolding is_digit
-returns c = refl
+returns c = search rules
