@@ -89,6 +89,7 @@ fn class_index(area: u64) -> usize
 pub fn place(kind: Kind, area: u64, right: Right) -> usize
     ensures place { result ≡ place_of kind (class_of area) right }
     ensures within { result < table_size }
+    ensures kind { IsKind kind }
 {
     let row = (kind.number - 1) as usize;
     let column = class_index(area);

@@ -6,7 +6,4 @@ pub returns : goal.returns
 returns c =
     let a = c.args in
     let p = c.place.ensures in
-    by_digit a.bytes.now a.kind a.area a.right c.requires.0 c.requires.1 p.place p.within c.right_at.ensures
-
-pub place-requires : goal.place-requires
-place-requires c = c.requires
+    by_digit a.bytes.now a.kind a.area a.right p.kind.0 p.kind.1 p.place p.within c.right_at.ensures
