@@ -7,6 +7,9 @@
 // as of it, row 32 + a the display of area a; behind the rows come the 36 digits of the rights table.
 #![tactic(auto)]
 
+ghost use Rattle.std.specs.Prelude.{◌≡◌};
+ghost use Rattle.tables.specs.Contract.{memory_of};
+
 use std::marker::Model;
 
 // ---- the buffers
@@ -27,6 +30,24 @@ impl<'a> Model for Buffers<'a> {
     ghost Value = { Memory };
 
     ghost view = { λ b. memory_of b.permanent.now b.scratch.now b.map.now b.written.now };
+}
+
+impl<'a> Buffers<'a> {
+    pub fn of(
+        permanent: &'a [u64],
+        scratch: &'a [u64],
+        map: &'a [u64],
+        written: &'a [u64],
+    ) -> Buffers<'a>
+        ensures { result ≡ memory_of permanent.now scratch.now map.now written.now }
+    {
+        Buffers {
+            permanent,
+            scratch,
+            map,
+            written,
+        }
+    }
 }
 
 // ---- records
