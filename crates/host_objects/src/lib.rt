@@ -10,7 +10,7 @@ ghost use Rattle.views.specs.PlacedView.{view_place_of, PlaceAnswers};
 ghost use Rattle.tables.specs.Decode.{state_of};
 
 use layout::answer::Answer;
-use tables::{Bytes, Words};
+use tables::{Buffers, Bytes, Words};
 use views::ViewPlace;
 
 // Op 06: an object with so many slots and data words in the current area; the value is its handle.
@@ -33,6 +33,7 @@ pub fn scopes_allocate(
     allocation::allocate(
         words, bytes, permanent, scratch, map, written, t, slots, data_words,
     )
+    .into()
 }
 
 // Op 07: a reference to a target, or null, is stored in a slot of an object.
@@ -56,6 +57,7 @@ pub fn scopes_store(
     references::store(
         words, bytes, permanent, scratch, map, written, t, object, slot, target,
     )
+    .into()
 }
 
 // Op 08: the value is the reference in a slot of an object.
@@ -75,9 +77,8 @@ pub fn scopes_load<'a>(
         words.now bytes.now (memory_of permanent.now scratch.now map.now written.now)
         words.now bytes.now (memory_of permanent.now scratch.now map.now written.now) }
 {
-    references::load(
-        words, bytes, permanent, scratch, map, written, t, object, slot,
-    )
+    let buffers = Buffers::of(permanent, scratch, map, written);
+    references::load(words, bytes, &buffers, t, object, slot).into()
 }
 
 // Op 09: a data word of an object is written.
@@ -101,6 +102,7 @@ pub fn scopes_write(
     data::write(
         words, bytes, permanent, scratch, map, written, t, object, index, word,
     )
+    .into()
 }
 
 // Op 0a: the value is a data word of an object.
@@ -120,9 +122,8 @@ pub fn scopes_read<'a>(
         words.now bytes.now (memory_of permanent.now scratch.now map.now written.now)
         words.now bytes.now (memory_of permanent.now scratch.now map.now written.now) }
 {
-    data::read(
-        words, bytes, permanent, scratch, map, written, t, object, index,
-    )
+    let buffers = Buffers::of(permanent, scratch, map, written);
+    data::read(words, bytes, &buffers, t, object, index).into()
 }
 
 // The status of showing an object's data.
@@ -141,7 +142,8 @@ pub fn scopes_view_status<'a>(
         words.now bytes.now (memory_of permanent.now scratch.now map.now written.now)
         words.now bytes.now (memory_of permanent.now scratch.now map.now written.now) }
 {
-    views::view_status(words, bytes, permanent, scratch, map, written, t, object)
+    let buffers = Buffers::of(permanent, scratch, map, written);
+    views::view_status(words, bytes, &buffers, t, object).into()
 }
 
 // Where its data lie: a store, the first word and how many; what `views::view` shows.
@@ -159,5 +161,6 @@ pub fn scopes_view_place<'a>(
     ensures place { result ≡ view_place_of (state_of words.now bytes.now) (memory_of permanent.now scratch.now map.now written.now) t object }
     ensures answers { PlaceAnswers result words.now bytes.now (memory_of permanent.now scratch.now map.now written.now) t object }
 {
-    views::view_place(words, bytes, permanent, scratch, map, written, t, object)
+    let buffers = Buffers::of(permanent, scratch, map, written);
+    views::view_place(words, bytes, &buffers, t, object)
 }

@@ -14,7 +14,7 @@ ghost use Rattle.setup.specs.First.{Begun};
 
 use layout::answer::Answer;
 use setup::SetUp;
-use tables::{Bytes, Words};
+use tables::{Buffers, Bytes, Words};
 
 // Set-up: the first h words of the permanent store are the heap's, the other i immortal memory's.
 pub fn scopes_set_up(
@@ -27,7 +27,8 @@ pub fn scopes_set_up(
 ) -> SetUp
     ensures { Begun result.status result.words result.bytes h i (memory_of permanent.now scratch.now map.now written.now) }
 {
-    setup::set_up(permanent, scratch, map, written, h, i)
+    let buffers = Buffers::of(permanent, scratch, map, written);
+    setup::set_up(&buffers, h, i)
 }
 
 // Set-up in place: the host's own tables, whatever they held. The answer is the status.
@@ -43,7 +44,11 @@ pub fn scopes_set_up_in_place(
 ) -> u64
     ensures { Begun result words.new bytes.new h i (memory_of permanent.now scratch.now map.now written.now) }
 {
-    setup::set_up_in_place(words, bytes, permanent, scratch, map, written, h, i)
+    let buffers = Buffers::of(permanent, scratch, map, written);
+    match setup::set_up_in_place(words, bytes, &buffers, h, i) {
+        Ok(()) => 0,
+        Err(refusal) => refusal.number(),
+    }
 }
 
 // Op 01: thread t starts, of a kind.
@@ -62,7 +67,8 @@ pub fn scopes_start(
         words.old bytes.now (memory_of permanent.now scratch.now map.now written.now)
         words.new bytes.now (memory_of permanent.now scratch.now map.now written.now) }
 {
-    threads::start(words, bytes, permanent, scratch, map, written, t, kind)
+    let buffers = Buffers::of(permanent, scratch, map, written);
+    threads::start(words, bytes, &buffers, t, kind).into()
 }
 
 // Op 0b: thread t starts a helper of a kind, which begins with the stack of thread t.
@@ -82,9 +88,8 @@ pub fn scopes_start_helper(
         words.old bytes.old (memory_of permanent.now scratch.now map.now written.now)
         words.new bytes.new (memory_of permanent.now scratch.now map.now written.now) }
 {
-    helpers::start_helper(
-        words, bytes, permanent, scratch, map, written, t, kind, helper,
-    )
+    let buffers = Buffers::of(permanent, scratch, map, written);
+    helpers::start_helper(words, bytes, &buffers, t, kind, helper).into()
 }
 
 // Op 02: thread t ends.
@@ -102,7 +107,8 @@ pub fn scopes_end(
         words.old bytes.now (memory_of permanent.now scratch.now map.now written.now)
         words.new bytes.now (memory_of permanent.now scratch.now map.now written.now) }
 {
-    threads::end(words, bytes, permanent, scratch, map, written, t)
+    let buffers = Buffers::of(permanent, scratch, map, written);
+    threads::end(words, bytes, &buffers, t).into()
 }
 
 // Op 03: a scope is made, of a size in words.
@@ -122,9 +128,8 @@ pub fn scopes_make(
         words.old bytes.now (memory_of permanent.now scratch.now map.now written.now)
         words.new bytes.now (memory_of permanent.now scratch.now map.now written.now) }
 {
-    areas::make::make(
-        words, bytes, permanent, scratch, map, written, t, area, size,
-    )
+    let buffers = Buffers::of(permanent, scratch, map, written);
+    areas::make::make(words, bytes, &buffers, t, area, size).into()
 }
 
 // Op 0c: a scope is removed.
@@ -143,7 +148,8 @@ pub fn scopes_remove(
         words.old bytes.now (memory_of permanent.now scratch.now map.now written.now)
         words.new bytes.now (memory_of permanent.now scratch.now map.now written.now) }
 {
-    removal::remove(words, bytes, permanent, scratch, map, written, t, q)
+    let buffers = Buffers::of(permanent, scratch, map, written);
+    removal::remove(words, bytes, &buffers, t, q).into()
 }
 
 // Op 04: an area is entered; the value is its generation.
@@ -162,7 +168,8 @@ pub fn scopes_enter(
         words.old bytes.old (memory_of permanent.now scratch.now map.now written.now)
         words.new bytes.new (memory_of permanent.now scratch.now map.now written.now) }
 {
-    entry::enter(words, bytes, permanent, scratch, map, written, t, area)
+    let buffers = Buffers::of(permanent, scratch, map, written);
+    entry::enter(words, bytes, &buffers, t, area).into()
 }
 
 // Op 05: the current area is left; the value is the count that is left of a scope, else 0.
@@ -180,5 +187,6 @@ pub fn scopes_exit(
         words.old bytes.now (memory_of permanent.now scratch.now map.now written.now)
         words.new bytes.now (memory_of permanent.now scratch.now map.now written.now) }
 {
-    exit::exit(words, bytes, permanent, scratch, map, written, t)
+    let buffers = Buffers::of(permanent, scratch, map, written);
+    exit::exit(words, bytes, &buffers, t).into()
 }

@@ -13,5 +13,5 @@ pub fn scopes_load_rights(words: &Words, bytes: &mut Bytes, text: &[u8]) -> Answ
     requires { Ready words.now bytes.old }
     ensures { AnswersAlone result (load_rights text.now) words.now bytes.old words.now bytes.new }
 {
-    loading::load_rights(words, bytes, text)
+    loading::load_rights(words, bytes, text).into()
 }

@@ -1,10 +1,11 @@
 // The ops that write lent words. Of the tables, the bytes stay.
 #![tactic(auto)]
 
+ghost use Rattle.layout.specs.Answer.{answer_of};
 ghost use Rattle.model.specs.Ops.{call_of};
 ghost use Rattle.tables.specs.Contract.{Answers, Ready, memory_of};
 
-use layout::answer::Answer;
+use layout::answer::Refusal;
 use model::{MemoryOp, Op};
 use tables::{Bytes, Words};
 
@@ -21,9 +22,9 @@ pub fn carry_memory(
     p: u64,
     q: u64,
     r: u64,
-) -> Answer
+) -> Result<u64, Refusal>
     requires { Ready words.old bytes.now }
-    ensures { Answers result (call_of (Op.Memory op) t p q r)
+    ensures { Answers (answer_of result) (call_of (Op.Memory op) t p q r)
         words.old bytes.now (memory_of permanent.old scratch.old map.old written.old)
         words.new bytes.now (memory_of permanent.new scratch.new map.new written.new) }
 {

@@ -6,7 +6,7 @@ ghost use Rattle.tables.specs.Contract.{Answers, Ready, memory_of};
 
 use layout::answer::Answer;
 use model::Op;
-use tables::{Bytes, Words};
+use tables::{Buffers, Bytes, Words};
 
 // The answer, the tables and the buffers are those of the call's definition.
 pub fn carry_out(
@@ -27,15 +27,18 @@ pub fn carry_out(
         words.old bytes.old (memory_of permanent.old scratch.old map.old written.old)
         words.new bytes.new (memory_of permanent.new scratch.new map.new written.new) }
 {
-    match op {
-        Op::State(o) => state_ops::carry_state(
-            words, bytes, permanent, scratch, map, written, o, t, p, q, r,
-        ),
+    let result = match op {
+        Op::State(o) => {
+            let buffers = Buffers::of(permanent, scratch, map, written);
+            state_ops::carry_state(words, bytes, &buffers, o, t, p, q, r)
+        }
         Op::Memory(o) => memory_ops::carry_memory(
             words, bytes, permanent, scratch, map, written, o, t, p, q, r,
         ),
-        Op::Question(o) => question_ops::carry_question(
-            words, bytes, permanent, scratch, map, written, o, t, p, q, r,
-        )
-    }
+        Op::Question(o) => {
+            let buffers = Buffers::of(permanent, scratch, map, written);
+            question_ops::carry_question(words, bytes, &buffers, o, t, p, q, r)
+        }
+    };
+    result.into()
 }
