@@ -51,7 +51,8 @@ fn text_digit(n: u64) -> u8
     b'0' + (n % 2) as u8
 }
 
-// Puts the four digits of class g, counted through all kinds.
+// Puts the four digits of class g, counted through all kinds. By its place and not as a chunk of
+// `chunks_exact_mut`: once such a borrow is over, a proof knows how long the table is, and not its digits.
 fn put_class(table: &mut Table, g: usize, value: u64)
     requires { g < class_count }
     ensures { table.new ≡ sets table.old (g * 4) (text_of (value ∷ [])) }
