@@ -1,4 +1,5 @@
--- Counts: how much of a buffer the reads so far filled. It is `IsPrefixLen` of std's own contracts of reads, which a crate over std cannot name.
+-- Counts: how much of a buffer was read, and how much of one is written. It is `IsPrefixLen` of std's own contracts of reads, which a crate over std
+-- cannot name.
 -- Assumes nothing.
 use Rattle.std.specs.Prelude.{ℕ, ◌≡◌, ◌≤◌, List, length, take}
 
