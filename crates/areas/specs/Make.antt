@@ -1,12 +1,13 @@
 -- Op 03: one law for each way that its checks end, and what it leaves.
 -- Assumes nothing.
-use Rattle.std.specs.Prelude.{◌≡◌, Bool, true, false, ◌||◌, ◌≢◌, List, ℕ, ◌+◌, ◌*◌, ◌/◌, ◌≤◌, ◌<◌, eqb, Option, None, Some, MatchOption}
+use Rattle.std.specs.Prelude.{◌≡◌, Bool, true, false, ◌||◌, ◌≢◌, List, ℕ, ◌+◌, ◌*◌, ◌/◌, ◌≤◌, ◌<◌, eqb, Option, None, Some, MatchOption, Ok, Err}
 use Rattle.std.specs.Option.{ok_or}
 use Rattle.std.proofs.Math.Path.{refl, ap}
 use Rattle.std.proofs.Common.{sym, ◌∙◌, arith}
 use borrow.Author.Tests.{le-leb, lt-leb, lt-ltb, le-ltb, eq-eqb, ne_eqb}
 use Rattle.layout.specs.Choice.{refuse, hit, skip}
-use Rattle.layout.specs.Answer.{Verdict}
+use Rattle.layout.specs.Answer.{Verdict, number_of, number_some}
+use Rattle.layout.specs.declared.answer.Refusal.{Refusal}
 use Rattle.layout.specs.declared.answer.Refusal.TheVariants.{Size}
 use Rattle.bitmap.specs.Bitmap.{marked}
 use Rattle.runs.specs.LowestRun.{lowest_run, is_clear}
@@ -17,7 +18,7 @@ use Rattle.model.specs.State.{State, is_made, with_area}
 use Rattle.model.specs.Blocks.{block_count, blocks_for, room_for, no_room}
 use Rattle.model.specs.Checks.{called}
 use Rattle.model.specs.Scopes.{make_rest, made_area, make_state}
-use Rattle.model.proofs.Accepted.{Called, MakeOk}
+use Rattle.model.proofs.Accepted.{Called, MakeOk, make_ok}
 use Rattle.tables.specs.Decode.{state_of, area_record, put_area, lengths_record, used_bits_of, put_used_bits, Holds}
 use Rattle.tables.specs.Contract.{Ready}
 use Rattle.tables.proofs.Laws.{area_read, lengths_read, used_bits_read, state_area}
@@ -104,6 +105,13 @@ module _ (s : State) (t q r : ℕ) where
         unfolding make_rest
         make_room h = sym (called_rest s t a _
             ∙ skip _ 6 _ (rw (le-ltb q 2 k, lt-leb 64 q l) refl) ∙ skip (is_made s q) 7 _ h)
+
+  -- what check_make's answer says
+  pub make_passed : {f : ℕ} → Verdict (Ok f) (room_for s r) (make_rest s t q r) → MakeOk s t q r × (f ≡ room_for s r) × (make_rest s t q r ≡ 0)
+  make_passed e = (make_ok s t q r e.1, e.0, e.1)
+
+  pub make_refused : (e : Refusal) → Verdict (Err e) (room_for s r) (make_rest s t q r) → (number_of e ≡ make_rest s t q r) × (number_of e ≢ 0)
+  make_refused e k = (k, number_some e)
 
 -- ---- what is left
 
