@@ -11,6 +11,7 @@ use crate::answer::Refusal;
 pub struct Place(pub usize);
 
 // At most 32 entries, each the number of an area; the top one is the last.
+// An array with a length beside it, since hosts in C hold it (include/scopes.h).
 #[repr(C)]
 #[derive(Clone, Copy)]
 pub struct ScopeStack {
