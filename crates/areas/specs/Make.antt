@@ -1,11 +1,14 @@
--- Op 03: what its checks answer, one law for each way that they end, and what it leaves.
+-- Op 03: one law for each way that its checks end, and what it leaves.
 -- Assumes nothing.
-use Rattle.std.specs.Prelude.{◌≡◌, Bool, true, false, ◌||◌, ◌≢◌, List, ℕ, ◌+◌, ◌*◌, ◌/◌, ◌≤◌, ◌<◌, eqb}
+use Rattle.std.specs.Prelude.{◌≡◌, Bool, true, false, ◌||◌, ◌≢◌, List, ℕ, ◌+◌, ◌*◌, ◌/◌, ◌≤◌, ◌<◌, eqb, Option, None, Some, MatchOption, Ok, Err}
+use Rattle.std.specs.Option.{ok_or}
 use Rattle.std.proofs.Math.Path.{refl, ap}
 use Rattle.std.proofs.Common.{sym, ◌∙◌, arith}
 use borrow.Author.Tests.{le-leb, lt-leb, lt-ltb, le-ltb, eq-eqb, ne_eqb}
 use Rattle.layout.specs.Choice.{refuse, hit, skip}
-use Rattle.layout.specs.Verdict.{Cases, verdict_of, passed_verdict, stopped_verdict, verdict_passed, verdict_stopped}
+use Rattle.layout.specs.Answer.{Verdict, number_of, number_some}
+use Rattle.layout.specs.declared.answer.Refusal.{Refusal}
+use Rattle.layout.specs.declared.answer.Refusal.TheVariants.{Size}
 use Rattle.bitmap.specs.Bitmap.{marked}
 use Rattle.runs.specs.LowestRun.{lowest_run, is_clear}
 use Rattle.runs.proofs.LowestRun.{too_long}
@@ -22,35 +25,10 @@ use Rattle.tables.proofs.Laws.{area_read, lengths_read, used_bits_read, state_ar
 use Rattle.flips.specs.Flipped.{AllBits}
 use Rattle.held_blocks.specs.Part.{bits_kept, used_hold}
 use Rattle.callers.specs.Caller.{thread_refused, called_rest}
-use Rattle.areas.specs.declared.make.Checked.{Checked}
-use Rattle.areas.specs.declared.make.Checked.TheVariants.{Passed, Refused}
-
--- ---- what the checks answer
-
--- the number of each case
-abbrev number_of : Checked → ℕ
-number_of (Passed f) = 0
-number_of (Refused n) = n
-
-pub make_cases : Cases Passed Refused number_of
-make_cases = record {
-  same = λ e. cc;
-  apart = λ e. let z : ◌≡◌ {A = ℕ} 0 1 = cc in omega arith;
-  number_pass = λ f. refl;
-  number_stop = λ n. refl;
-}
 
 -- refusal 8 alone
-abbrev room_rest : State → ℕ → ℕ
+abbrev pub room_rest : State → ℕ → ℕ
 room_rest s r = refuse (eqb r 0 || no_room s r) 8 0
-
--- the first block of the room for r words, or 8
-abbrev pub room_checked : State → ℕ → Checked
-room_checked s r = verdict_of Passed Refused (room_for s r) (room_rest s r)
-
--- the same after the other refusals
-abbrev pub make_checked : State → ℕ → ℕ → ℕ → Checked
-make_checked s t q r = verdict_of Passed Refused (room_for s r) (make_rest s t q r)
 
 -- ---- refusal 8
 
@@ -62,19 +40,17 @@ module _ (w b : List ℕ) (g : Ready w b) (r : ℕ) {l : Lengths} (e : l ≡ len
   pub scratch_bound : l.scratch ≤ 16384
   scratch_bound = omega (arith, ap (λ (x : Lengths). x.scratch) (e ∙ sym (lengths_read w b)), g.good.placed.scratch)
 
-  lacking : no_room (state_of w b) r ≡ true → Refused 8 ≡ room_checked (state_of w b) r
-  lacking h = stopped_verdict make_cases (room_for (state_of w b) r) 8 (λ z. omega arith)
-      (sym (hit (eqb r 0 || no_room (state_of w b) r) 8 0 (or_second (eqb r 0) h)))
+  lacking : no_room (state_of w b) r ≡ true → 8 ≡ room_rest (state_of w b) r
+  lacking h = sym (hit (eqb r 0 || no_room (state_of w b) r) 8 0 (or_second (eqb r 0) h))
     where
       or_second : (x : Bool) {y : Bool} → y ≡ true → x || y ≡ true
       or_second true d = refl
       or_second false d = d
 
-  pub room_empty : r ≡ 0 → Refused 8 ≡ room_checked (state_of w b) r
-  room_empty z = stopped_verdict make_cases (room_for (state_of w b) r) 8 (λ z. omega arith)
-      (sym (hit (eqb r 0 || no_room (state_of w b) r) 8 0 (rw (eq-eqb r 0 z) refl)))
+  pub room_empty : r ≡ 0 → 8 ≡ room_rest (state_of w b) r
+  room_empty z = sym (hit (eqb r 0 || no_room (state_of w b) r) 8 0 (rw (eq-eqb r 0 z) refl))
 
-  pub room_large : 16 * (l.scratch / 16) < r → Refused 8 ≡ room_checked (state_of w b) r
+  pub room_large : 16 * (l.scratch / 16) < r → 8 ≡ room_rest (state_of w b) r
   unfolding room_for
   room_large h = lacking (eq-eqb (room_for (state_of w b) r) (block_count (state_of w b)) (too_long _ (blocks_for r) (block_count (state_of w b)) (omega (arith, count_is))))
 
@@ -84,53 +60,58 @@ module _ (w b : List ℕ) (g : Ready w b) (r : ℕ) {l : Lengths} (e : l ≡ len
     unfolding room_for
     room_is = d ∙ rw (count_is, used_bits_read w b) refl
 
-    pub room_none : f ≡ l.scratch / 16 → Refused 8 ≡ room_checked (state_of w b) r
+    pub room_none : f ≡ l.scratch / 16 → 8 ≡ room_rest (state_of w b) r
     room_none h = lacking (eq-eqb (room_for (state_of w b) r) (block_count (state_of w b)) (sym room_is ∙ h ∙ count_is))
 
-    pub room_found : r ≢ 0 → f ≢ l.scratch / 16 → Passed f ≡ room_checked (state_of w b) r
-    room_found n h = passed_verdict make_cases (room_for (state_of w b) r) room_is
-        (sym (skip (eqb r 0 || no_room (state_of w b) r) 8 0
-        (rw (ne_eqb r 0 n) (ne_eqb (room_for (state_of w b) r) (block_count (state_of w b)) (λ z. h (room_is ∙ z ∙ sym count_is))))))
+    pub room_found : r ≢ 0 → f ≢ l.scratch / 16 → (f ≡ room_for (state_of w b) r) × (room_rest (state_of w b) r ≡ 0)
+    room_found n h = (
+      room_is,
+      skip (eqb r 0 || no_room (state_of w b) r) 8 0
+          (rw (ne_eqb r 0 n) (ne_eqb (room_for (state_of w b) r) (block_count (state_of w b)) (λ z. h (room_is ∙ z ∙ sym count_is)))),
+    )
+
+  -- o is what the search tells: the first block of the lowest run that holds them, where there is one
+  pub room_told : r ≢ 0 → (o : Option ℕ)
+      → (let first = lowest_run (is_clear (used_bits_of w)) ((r + 15) / 16) (l.scratch / 16) in
+      MatchOption o (l.scratch / 16 ≡ first) (λ k. (k ≡ first) × (k < l.scratch / 16)))
+      → Verdict (ok_or o Size) (room_for (state_of w b) r) (room_rest (state_of w b) r)
+  room_told n None d = room_none refl (sym d)
+  room_told n (Some k) d = room_found d.0 n (λ z. omega (arith, z, d.1))
 
 -- ---- the chain
 
 module _ (s : State) (t q r : ℕ) where
-  refused : {n : ℕ} → n ≢ 0 → n ≡ make_rest s t q r → Refused n ≡ make_checked s t q r
-  refused = stopped_verdict make_cases (room_for s r) _
-
-  pub make_not_called : {n : ℕ} → n ≡ called s t 0 → n ≢ 0 → Refused n ≡ make_checked s t q r
+  pub make_not_called : {n : ℕ} → n ≡ called s t 0 → n ≢ 0 → n ≡ make_rest s t q r
   unfolding make_rest
-  make_not_called e h = refused h (thread_refused s t e h _)
+  make_not_called e h = thread_refused s t e h _
 
   module _ (a : Called s t) where
-    pub make_low : q < 2 → Refused 6 ≡ make_checked s t q r
+    pub make_low : q < 2 → 6 ≡ make_rest s t q r
     unfolding make_rest refuse
-    make_low h = refused (λ z. omega arith) (sym (called_rest s t a _ ∙ rw (lt-ltb q 2 h)))
+    make_low h = sym (called_rest s t a _ ∙ rw (lt-ltb q 2 h))
 
     module _ (k : 2 ≤ q) where
-      pub make_high : 64 ≤ q → Refused 6 ≡ make_checked s t q r
+      pub make_high : 64 ≤ q → 6 ≡ make_rest s t q r
       unfolding make_rest refuse
-      make_high h = refused (λ z. omega arith) (sym (called_rest s t a _ ∙ rw (le-ltb q 2 k, le-leb 64 q h)))
+      make_high h = sym (called_rest s t a _ ∙ rw (le-ltb q 2 k, le-leb 64 q h))
 
       module _ (l : q < 64) where
-        pub make_made : is_made s q ≡ true → Refused 7 ≡ make_checked s t q r
+        pub make_made : is_made s q ≡ true → 7 ≡ make_rest s t q r
         unfolding make_rest refuse
-        make_made h = refused (λ z. omega arith) (sym (called_rest s t a _ ∙ rw (le-ltb q 2 k, lt-leb 64 q l, h)))
+        make_made h = sym (called_rest s t a _ ∙ rw (le-ltb q 2 k, lt-leb 64 q l, h))
 
         -- only 8 is left
-        pub make_room : is_made s q ≡ false → room_checked s r ≡ make_checked s t q r
+        pub make_room : is_made s q ≡ false → room_rest s r ≡ make_rest s t q r
         unfolding make_rest
-        make_room h = ap (verdict_of Passed Refused (room_for s r)) (sym (called_rest s t a _
-            ∙ skip _ 6 _ (rw (le-ltb q 2 k, lt-leb 64 q l) refl) ∙ skip (is_made s q) 7 _ h))
+        make_room h = sym (called_rest s t a _
+            ∙ skip _ 6 _ (rw (le-ltb q 2 k, lt-leb 64 q l) refl) ∙ skip (is_made s q) 7 _ h)
 
   -- what check_make's answer says
-  pub make_passed : {f : ℕ} → Passed f ≡ make_checked s t q r → MakeOk s t q r × (f ≡ room_for s r) × (make_rest s t q r ≡ 0)
-  make_passed e =
-      let d = verdict_passed make_cases (room_for s r) (make_rest s t q r) e in
-      (make_ok s t q r d.0, d.1, d.0)
+  pub make_passed : {f : ℕ} → Verdict (Ok f) (room_for s r) (make_rest s t q r) → MakeOk s t q r × (f ≡ room_for s r) × (make_rest s t q r ≡ 0)
+  make_passed e = (make_ok s t q r e.1, e.0, e.1)
 
-  pub make_refused : {n : ℕ} → Refused n ≡ make_checked s t q r → (n ≡ make_rest s t q r) × (n ≢ 0)
-  make_refused e = verdict_stopped make_cases (room_for s r) (make_rest s t q r) e
+  pub make_refused : (e : Refusal) → Verdict (Err e) (room_for s r) (make_rest s t q r) → (number_of e ≡ make_rest s t q r) × (number_of e ≢ 0)
+  make_refused e k = (k, number_some e)
 
 -- ---- what is left
 

@@ -1,59 +1,43 @@
 // Op 03: a scope is made.
 ghost use Rattle.std.specs.Prelude.{◌≡◌, ◌<◌};
+ghost use Rattle.layout.specs.Answer.{answer_of, Verdict};
 ghost use Rattle.model.specs.Blocks.{room_for};
-ghost use Rattle.model.specs.Scopes.{make_state, make_change};
+ghost use Rattle.model.specs.Scopes.{make_rest, make_state, make_change};
 ghost use Rattle.model.specs.Calls as calls;
 ghost use Rattle.model.proofs.Accepted.{MakeOk};
-ghost use Rattle.tables.specs.Contract.{Changes, Answers, Ready, memory_of};
-ghost use Rattle.areas.specs.Make.{room_checked, make_checked};
+ghost use Rattle.tables.specs.Contract.{Changes, Answers, Ready};
+ghost use Rattle.areas.specs.Make.{room_rest};
 ghost use Rattle.tables.specs.Decode.{state_of, Holds};
 
-use layout::answer::Answer;
-use tables::{Bytes, Words};
-
-// The first block of a new scope's room, or the refusal of the call.
-#[derive(Clone, Copy)]
-pub enum Checked {
-    Passed(usize),
-    Refused(u64),
-}
+use layout::answer::Refusal;
+use tables::{Buffers, Bytes, Words};
 
 // Refusal 8, or the first block of the room for r words: of the lowest run of free blocks that holds them. A size that
 // all blocks together do not hold is told first, so that no sum wraps.
-fn find_room(words: &Words, bytes: &Bytes, r: u64) -> Checked
+fn find_room(words: &Words, bytes: &Bytes, r: u64) -> Result<usize, Refusal>
     requires { Ready words.now bytes.now }
-    ensures { result ≡ room_checked (state_of words.now bytes.now) r }
+    ensures { let s = state_of words.now bytes.now in Verdict result (room_for s r) (room_rest s r) }
 {
     let blocks = held_lengths::lengths_at(words).scratch / 16;
     if r == 0 {
-        return Checked::Refused(8);
+        return Err(Refusal::Size);
     }
     if 16 * blocks < r {
-        return Checked::Refused(8);
+        return Err(Refusal::Size);
     }
-    let first = held_blocks::lowest_free(words, ((r + 15) / 16) as usize, blocks as usize);
-    if first == blocks as usize {
-        return Checked::Refused(8);
-    }
-    Checked::Passed(first)
+    held_blocks::lowest_free(words, ((r + 15) / 16) as usize, blocks as usize).ok_or(Refusal::Size)
 }
 
-fn check_make(words: &Words, bytes: &Bytes, t: u64, q: u64, r: u64) -> Checked
+fn check_make(words: &Words, bytes: &Bytes, t: u64, q: u64, r: u64) -> Result<usize, Refusal>
     requires { Ready words.now bytes.now }
-    ensures { result ≡ make_checked (state_of words.now bytes.now) t q r }
+    ensures { let s = state_of words.now bytes.now in Verdict result (room_for s r) (make_rest s t q r) }
 {
-    let refusal = callers::check_thread(words, bytes, t);
-    if refusal != 0 {
-        return Checked::Refused(refusal);
-    }
-    if q < 2 {
-        return Checked::Refused(6);
-    }
-    if 64 <= q {
-        return Checked::Refused(6);
+    callers::check_thread(words, bytes, t)?;
+    if !(2..64).contains(&q) {
+        return Err(Refusal::Area);
     }
     if held_areas::is_made(held_areas::area_at(words, q as usize), q) {
-        return Checked::Refused(7);
+        return Err(Refusal::Made);
     }
     find_room(words, bytes, r)
 }
@@ -69,46 +53,28 @@ fn apply_make(words: &mut Words, bytes: &Bytes, t: u64, q: usize, r: u64, first:
 }
 
 // After refusal 1.
-pub fn make_on(words: &mut Words, bytes: &Bytes, t: u64, q: u64, r: u64) -> Answer
+pub fn make_on(words: &mut Words, bytes: &Bytes, t: u64, q: u64, r: u64) -> Result<u64, Refusal>
     requires { Ready words.old bytes.now }
-    ensures { Changes result (make_change (state_of words.old bytes.now) t q r)
+    ensures { Changes (answer_of result) (make_change (state_of words.old bytes.now) t q r)
         words.old bytes.now words.new bytes.now }
 {
-    let checked = check_make(words, bytes, t, q, r);
-    match checked {
-        Checked::Refused(status) => Answer { status, value: 0 },
-        Checked::Passed(first) => {
-            apply_make(words, bytes, t, q as usize, r, first);
-            Answer {
-                status: 0,
-                value: 0,
-            }
-        }
-    }
+    let first = check_make(words, bytes, t, q, r)?;
+    apply_make(words, bytes, t, q as usize, r, first);
+    Ok(0)
 }
 
 pub fn make(
     words: &mut Words,
     bytes: &Bytes,
-    permanent: &[u64],
-    scratch: &[u64],
-    map: &[u64],
-    written: &[u64],
+    buffers: &Buffers<'_>,
     t: u64,
     q: u64,
     r: u64,
-) -> Answer
+) -> Result<u64, Refusal>
     requires { Ready words.old bytes.now }
-    ensures { Answers result (calls.make t q r)
-        words.old bytes.now (memory_of permanent.now scratch.now map.now written.now)
-        words.new bytes.now (memory_of permanent.now scratch.now map.now written.now) }
+    ensures { Answers (answer_of result) (calls.make t q r)
+        words.old bytes.now buffers.now words.new bytes.now buffers.now }
 {
-    let fit = callers::lengths_fit(words, bytes, permanent, scratch, map, written);
-    if !fit {
-        return Answer {
-            status: 1,
-            value: 0,
-        };
-    }
+    callers::check_lengths(words, bytes, buffers)?;
     make_on(words, bytes, t, q, r)
 }

@@ -8,6 +8,7 @@ ghost use Rattle.bitmap.specs.Bitmap.{bit_at, with_bit, cleared, words_holding};
 ghost use Rattle.bitmap.specs.Digits.{without_digits};
 
 // 1 where bit w is set, else 0.
+#[tactic(auto, unfolding(crate::specs::Bitmap::bit_at))]
 pub fn bit(map: &[u64], w: usize) -> u64
     requires { w / 64 < length map.now }
     ensures { result ≡ bit_at map.now w }
@@ -17,23 +18,17 @@ pub fn bit(map: &[u64], w: usize) -> u64
 
 // Sets bit w, which lies in map word i. The caller tells the word, which it needs before: computed here once more, it
 // would not be kept.
+#[tactic(auto, using(crate::proofs::Shifts::or_one), unfolding(crate::specs::Bitmap::with_bit))]
 pub fn set_bit(map: &mut [u64], i: usize, w: usize)
     requires { (i ≡ w / 64) × (i < length map.old) }
     ensures { map.new ≡ with_bit map.old w }
 {
     let digit = 1 << (w % 64);
-    map[i] = map[i] | digit;
+    map[i] |= digit;
 }
 
-// x without its binary digits from digit k on.
-fn without_rest(x: u64, k: usize) -> u64
-    requires { k < 64 }
-    ensures { result ≡ without_digits x k (64 - k) }
-{
-    x & ((1 << k) - 1)
-}
-
-// x without its binary digits from digit k to digit e: those below, and those above.
+// x without its binary digits from digit k to digit e: those below, and those above, of which digit 63 has none.
+#[tactic(auto, using(crate::specs::Digits::digits_cleared))]
 fn without_digits(x: u64, k: usize, e: usize) -> u64
     requires { (k ≤ e) × (e < 64) }
     ensures { result ≡ without_digits x k (suc e - k) }
@@ -43,7 +38,9 @@ fn without_digits(x: u64, k: usize, e: usize) -> u64
 
 // Clears the n bits from bit w on and yields in how many turns: one for each map word that holds them. A turn clears, by
 // one mask, the bits that are left of one map word: to its end or, in the last one, to the last bit. Bits that lie in
-// one map word are cleared before the loop: where two maps are cleared at the same place, the two tests become one.
+// one map word are cleared before the loop: where two maps are cleared at the same place, the two tests become one. As a
+// `for` over map words the loop was slower: the compiler saw the words between become 0, and called memset, which takes
+// longer than the few words of a run.
 pub fn clear_bits(map: &mut [u64], w: usize, n: usize) -> usize
     requires { (w + n ≤ 64 * length map.old) × (w + n ≤ 32768) }
     ensures { (map.new ≡ cleared map.old w n) × (result ≡ words_holding w n) }
@@ -65,7 +62,7 @@ pub fn clear_bits(map: &mut [u64], w: usize, n: usize) -> usize
             map[word] = without_digits(map[word], first % 64, last % 64);
             return iterations;
         }
-        map[word] = without_rest(map[word], first % 64);
+        map[word] = without_digits(map[word], first % 64, 63);
         first = 64 * (word + 1);
     }
 }

@@ -2,33 +2,31 @@
 #![tactic(auto)]
 
 ghost use Rattle.std.specs.Prelude.{◌≡◌, pred, ◌<◌, ◌≤◌};
+ghost use Rattle.layout.specs.Answer.{status_of, answer_of};
 ghost use Rattle.layout.specs.Choice.{pick};
 ghost use Rattle.model.specs.State.{is_scope, area_at, thread_at, with_thread};
 ghost use Rattle.model.specs.Scopes.{exit_rest, left, left_area, popped, exit_state, exit_value, exit_change};
 ghost use Rattle.model.specs.Calls as calls;
 ghost use Rattle.tables.specs.Decode.{area_record, put_area, Shaped, state_of, Holds};
-ghost use Rattle.tables.specs.Contract.{Changes, Answers, Ready, memory_of};
+ghost use Rattle.tables.specs.Contract.{Changes, Answers, Ready};
 
-use layout::answer::Answer;
+use layout::answer::Refusal;
 use model::Area;
-use tables::{Bytes, ThreadWords, Words};
+use tables::{Buffers, Bytes, ThreadWords, Words};
 
 // 2 and 11. A thread that is not started has no entry, so its kind is looked at only where the stack is empty.
-fn check_exit(words: &Words, bytes: &Bytes, t: u64) -> u64
+fn check_exit(words: &Words, bytes: &Bytes, t: u64) -> Result<(), Refusal>
     requires { Ready words.now bytes.now }
-    ensures { result ≡ exit_rest (state_of words.now bytes.now) t }
+    ensures { status_of result ≡ exit_rest (state_of words.now bytes.now) t }
 {
     if 16 <= t {
-        return 2; // above 15
+        return Err(Refusal::Thread); // above 15
     }
     if 0 < held_threads::thread_at(words, t as usize).len {
-        return 0;
+        return Ok(());
     }
-    let refusal = callers::check_thread(words, bytes, t);
-    if refusal != 0 {
-        return refusal;
-    }
-    11
+    callers::check_thread(words, bytes, t)?;
+    Err(Refusal::Entries)
 }
 
 // A scope after its last exit: it has no parent, no used words and no display.
@@ -37,13 +35,11 @@ fn closed_area(x: Area) -> Area
     ensures { result ≡ left x }
 {
     Area {
-        start: x.start,
-        size: x.size,
         used: 0,
-        generation: x.generation,
         count: 0,
         parent: 0,
         depth: 0,
+        ..x
     }
 }
 
@@ -52,9 +48,10 @@ fn open_area(x: Area) -> Area
     requires { 1 < x.count }
     ensures { result ≡ left x }
 {
-    let mut next = x;
-    next.count = x.count - 1;
-    next
+    Area {
+        count: x.count - 1,
+        ..x
+    }
 }
 
 // Scope q is left; the count that is left. The two ways are written apart, so that each writes only what it changes.
@@ -75,7 +72,8 @@ fn leave_scope(words: &mut Words, q: usize) -> u64
 
 // Area q is left; the count that is left of a scope, else 0.
 fn leave_area(words: &mut Words, bytes: &Bytes, q: usize) -> u64
-    requires { Shaped words.old bytes.now × (q < 64) × (2 ≤ q → 0 < (area_at (state_of words.old bytes.now) q).count) }
+    requires { Shaped words.old bytes.now × (q < 64)
+        × (2 ≤ q → 0 < (area_at (state_of words.old bytes.now) q).count) }
     ensures value { result ≡ pick (is_scope q) (pred (area_at (state_of words.old bytes.now) q).count) 0 }
     ensures state { Holds words.new bytes.now (left_area (state_of words.old bytes.now) q) }
 {
@@ -87,8 +85,10 @@ fn leave_area(words: &mut Words, bytes: &Bytes, q: usize) -> u64
 
 // The top entry is taken off.
 fn pop(words: &mut Words, bytes: &Bytes, t: usize)
-    requires { Shaped words.old bytes.now × (t < 16) × (0 < (thread_at (state_of words.old bytes.now) t).len) }
-    ensures { Holds words.new bytes.now (with_thread (state_of words.old bytes.now) t (popped (thread_at (state_of words.old bytes.now) t))) }
+    requires { Shaped words.old bytes.now × (t < 16)
+        × (0 < (thread_at (state_of words.old bytes.now) t).len) }
+    ensures { Holds words.new bytes.now (with_thread (state_of words.old bytes.now) t
+        (popped (thread_at (state_of words.old bytes.now) t))) }
 {
     let h = held_threads::thread_at(words, t);
     let len = h.len - 1;
@@ -98,7 +98,8 @@ fn pop(words: &mut Words, bytes: &Bytes, t: usize)
 // The effect of an accepted exit. The stack is written before the area: the length is then the one that was read for
 // the checks.
 fn apply_exit(words: &mut Words, bytes: &Bytes, t: usize) -> u64
-    requires { Ready words.old bytes.now × (t < 16) × (0 < (thread_at (state_of words.old bytes.now) t).len) }
+    requires { Ready words.old bytes.now × (t < 16)
+        × (0 < (thread_at (state_of words.old bytes.now) t).len) }
     ensures value { result ≡ exit_value (state_of words.old bytes.now) t }
     ensures state { Holds words.new bytes.now (exit_state (state_of words.old bytes.now) t) }
 {
@@ -108,41 +109,20 @@ fn apply_exit(words: &mut Words, bytes: &Bytes, t: usize) -> u64
 }
 
 // After refusal 1.
-pub fn exit_on(words: &mut Words, bytes: &Bytes, t: u64) -> Answer
+pub fn exit_on(words: &mut Words, bytes: &Bytes, t: u64) -> Result<u64, Refusal>
     requires { Ready words.old bytes.now }
-    ensures { Changes result (exit_change (state_of words.old bytes.now) t)
+    ensures { Changes (answer_of result) (exit_change (state_of words.old bytes.now) t)
         words.old bytes.now words.new bytes.now }
 {
-    let status = check_exit(words, bytes, t);
-    if status != 0 {
-        return Answer { status, value: 0 };
-    }
-    Answer {
-        status: 0,
-        value: apply_exit(words, bytes, t as usize),
-    }
+    check_exit(words, bytes, t)?;
+    Ok(apply_exit(words, bytes, t as usize))
 }
 
-pub fn exit(
-    words: &mut Words,
-    bytes: &Bytes,
-    permanent: &[u64],
-    scratch: &[u64],
-    map: &[u64],
-    written: &[u64],
-    t: u64,
-) -> Answer
+pub fn exit(words: &mut Words, bytes: &Bytes, buffers: &Buffers<'_>, t: u64) -> Result<u64, Refusal>
     requires { Ready words.old bytes.now }
-    ensures { Answers result (calls.exit t)
-        words.old bytes.now (memory_of permanent.now scratch.now map.now written.now)
-        words.new bytes.now (memory_of permanent.now scratch.now map.now written.now) }
+    ensures { Answers (answer_of result) (calls.exit t)
+        words.old bytes.now buffers.now words.new bytes.now buffers.now }
 {
-    let fit = callers::lengths_fit(words, bytes, permanent, scratch, map, written);
-    if !fit {
-        return Answer {
-            status: 1,
-            value: 0,
-        };
-    }
+    callers::check_lengths(words, bytes, buffers)?;
     exit_on(words, bytes, t)
 }

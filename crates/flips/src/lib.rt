@@ -6,6 +6,7 @@ ghost use Rattle.std.specs.Prelude.{◌+◌, ◌*◌, ◌<◌, ◌≤◌, length
 ghost use Rattle.flips.specs.Flipped.{FlippedDigits, Flipped};
 
 // x with its n binary digits from digit k on flipped.
+#[tactic(auto, using(crate::specs::Flipped::digits_flipped))]
 fn flip_digits(x: u64, k: usize, n: usize) -> u64
     requires { (0 < n) × (k + n ≤ 64) }
     ensures { FlippedDigits x result k n }
@@ -15,6 +16,7 @@ fn flip_digits(x: u64, k: usize, n: usize) -> u64
 
 // The n bits from bit w on, by one mask for each map word that holds them. What a whole word becomes depends on what it
 // was: were it a constant, the compiler would call memset, which takes longer than the few words of a run.
+// No `for` over map words: the wrong program must-fail/flip_bits_endless.edit goes on for ever, which none can.
 pub fn flip_bits(map: &mut [u64], w: usize, n: usize)
     requires { (0 < n) × (w + n ≤ 64 * length map.old) × (w + n ≤ 32768) }
     ensures { Flipped map.old map.new w n }

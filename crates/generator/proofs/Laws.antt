@@ -2,25 +2,44 @@
 -- Assumes nothing.
 use Prim.Native.Nat.{ℕ, suc, ◌+◌, ◌*◌, ◌/◌, ◌%◌, ◌≤◌, ◌<◌}
 use native.Mathlib.Omega.{arith}
-use mathlib.Core.Bool.{true, ◌&&◌}
+use mathlib.Core.Bool.{Bool, true, false, ◌&&◌}
+use Rattle.std.proofs.Common.{sym, subst, true≢false}
+use Rattle.std.proofs.lemmas.List.FromFn.{length-range_with_len, get_or-range_with_len}
+use Rattle.std.specs.Bool.{MatchBool}
+use Rattle.std.specs.List.{AllWithin, HoldsAt, range_with_len}
 use mathlib.Core.List.{List, [], ◌∷◌, ◌++◌}
 use mathlib.Core.Logic.{⊎_elim}
 use mathlib.Core.Path.{◌≡◌, refl, ap, ◌∙◌}
 use lib.Dec.{eqb}
-use lib.ListN.{length, get_or, take, drop, set, replicate, drop_of_length-le, get_or-map}
-use lib.Seq.{sets, take_all, take-suc, length-take-le}
+use lib.ListN.{length, get_or, take, set, replicate, get_or-map}
+use lib.Seq.{sets, take-suc, length-take-le}
 use borrow.Author.Tests.{eqb-true}
-use Rattle.layout.specs.Choice.{and_true, or_true}
-use Rattle.layout.specs.Below.{all_below, all_each}
+use Rattle.layout.specs.Choice.{cases, and_true, or_true}
+use Rattle.layout.specs.Below.{all_below, all_each, each_all}
 use Rattle.hexadecimal.specs.Digit.{is_digit, digit_value}
 use Rattle.rights.specs.Rights.{digit0, table_size, text_of}
 use Rattle.generator.specs.Generator.{class_count, places, digit_place, is_line_feed, is_ended, all_digits, is_source, values_of}
-use Rattle.generator.specs.GeneratorLaws.{table_length}
 
 -- the place of a digit by its line and its place there; computed for all nine
 pub place_is : (g : ℕ) → g < class_count → g / 3 * 4 + g % 3 ≡ digit_place g
 unfolding digit_place places all_below
 place_is g h = eqb-true _ _ (all_each (λ (k : ℕ). eqb (k / 3 * 4 + k % 3) (digit_place k)) class_count refl g h)
+
+-- a test of all numbers below n, as `all` over them tells it
+pub told_all : (f : ℕ → Bool) (n : ℕ) (b : Bool)
+    → MatchBool b (AllWithin (λ i. f i ≡ true) (range_with_len 0 n) 0 (length (range_with_len 0 n)))
+    ((k : ℕ) × (k < length (range_with_len 0 n)) × HoldsAt (λ i. f i ≡ false) (range_with_len 0 n) k)
+    → b ≡ all_below f n
+told_all f n true h =
+    sym (each_all f n (λ i l.
+    let e : get_or (range_with_len 0 n) i 0 ≡ i = omega (arith, get_or-range_with_len 0 n i 0 l) in
+    subst (λ k. f k ≡ true) e (h i 0 (omega arith) (omega (arith, length-range_with_len 0 n, l)))))
+told_all f n false h = cases (all_below f n)
+    (λ e.
+    let l : h.0 < n = omega (arith, length-range_with_len 0 n, h.1) in
+    let at : get_or (range_with_len 0 n) h.0 0 ≡ h.0 = omega (arith, get_or-range_with_len 0 n h.0 0 l) in
+    absurd (true≢false (sym (all_each f n e h.0 l) ∙ sym (ap f at) ∙ h.2 0)))
+    (λ e. sym e)
 
 -- ---- what a source has
 
@@ -91,13 +110,3 @@ module _ (l : List ℕ) where
   pub filled_all : filled l class_count ≡ text_of (values_of l)
   unfolding filled text_of values_of places
   filled_all = refl
-
-  -- the digits fill the table
-  whole : length (text_of (values_of l)) ≤ table_size
-  whole = omega (arith, table_length l)
-
-  pub whole_taken : take table_size (text_of (values_of l)) ≡ text_of (values_of l)
-  whole_taken = take_all table_size (text_of (values_of l)) whole
-
-  pub none_left : drop table_size (text_of (values_of l)) ≡ []
-  none_left = drop_of_length-le (text_of (values_of l)) whole

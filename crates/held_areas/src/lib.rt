@@ -44,10 +44,7 @@ pub fn put_area(words: &mut Words, a: usize, x: Area)
 pub fn is_made(x: Area, a: u64) -> bool
     ensures { result ≡ made_as x a }
 {
-    if a < 2 {
-        return true;
-    }
-    0 < x.size
+    a < 2 || 0 < x.size
 }
 
 // An open scope with one entry more.
@@ -55,17 +52,15 @@ pub fn reentered(x: Area) -> Area
     requires { x.count < 1024 }
     ensures { result ≡ reentered x }
 {
-    let mut y = x;
-    y.count = x.count + 1;
-    y
+    Area {
+        count: x.count + 1,
+        ..x
+    }
 }
 
 // An area with its words elsewhere, and of another size.
 pub fn placed(x: Area, start: u64, size: u64) -> Area
     ensures { result ≡ with_words x start size }
 {
-    let mut y = x;
-    y.start = start;
-    y.size = size;
-    y
+    Area { start, size, ..x }
 }

@@ -1,17 +1,18 @@
 // The used bits in the tables: bit k mod 64 of word k / 64 is 1 where block k of scratch is a scope's.
 #![tactic(auto)]
 
-ghost use Rattle.std.specs.Prelude.{◌≡◌, ◌+◌, ◌<◌, ◌≤◌, length};
+ghost use Rattle.std.specs.Prelude.{◌≡◌, ◌+◌, ◌<◌, ◌≤◌, MatchOption, length};
 ghost use Rattle.runs.specs.LowestRun.{lowest_run, is_clear};
 ghost use Rattle.tables.specs.Decode.{word_count, used_bits_of};
 ghost use Rattle.held_blocks.specs.Part.{FlippedPart};
 
 use tables::{USED_BITS_AT, WORDS, Words};
 
-// The first block of the lowest run of n free ones among so many blocks; their number where there is none.
-pub fn lowest_free(words: &Words, n: usize, blocks: usize) -> usize
+// The first block of the lowest run of n free ones among so many blocks, where there is one.
+pub fn lowest_free(words: &Words, n: usize, blocks: usize) -> Option<usize>
     requires { (0 < n) × (n ≤ blocks) × (blocks ≤ 1024) }
-    ensures { result ≡ lowest_run (is_clear (used_bits_of words.now)) n blocks }
+    ensures { let first = lowest_run (is_clear (used_bits_of words.now)) n blocks in
+        MatchOption result (blocks ≡ first) (λ k. (k ≡ first) × (k < blocks)) }
 {
     let all = &words[..];
     search::lowest_run(&all[USED_BITS_AT..WORDS], n, blocks).start

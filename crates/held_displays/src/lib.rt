@@ -9,6 +9,7 @@ use layout::display::{Depth, Row};
 use tables::{Bytes, DISPLAY_ROWS, ROW_BYTES};
 
 // The display of an area, by value.
+#[tactic(auto, unfolding(tables::specs::Decode::display_row))]
 pub fn row_at(bytes: &Bytes, a: usize) -> Row
     requires { a < area_count }
     ensures { result ≡ display_row bytes.now a }
@@ -16,6 +17,7 @@ pub fn row_at(bytes: &Bytes, a: usize) -> Row
     held_rows::row_at(bytes, DISPLAY_ROWS + a)
 }
 
+#[tactic(auto, unfolding(tables::specs::Decode::put_row))]
 pub fn put_row(bytes: &mut Bytes, a: usize, row: Row)
     requires { a < area_count }
     ensures { bytes.new ≡ put_row bytes.old a row }
@@ -29,6 +31,5 @@ pub fn row_holds(bytes: &Bytes, b: usize, depth: Depth, area: u8) -> bool
     ensures { result ≡ row_holds (display_row bytes.now b) depth.0 area }
 {
     let at = (DISPLAY_ROWS + b) * ROW_BYTES;
-    let all = &bytes[..];
-    layout::display::holds(&all[at..at + ROW_BYTES], depth, area)
+    layout::display::holds(&bytes[at..at + ROW_BYTES], depth, area)
 }

@@ -18,9 +18,5 @@ pub fn put_rights(bytes: &mut Bytes, table: &[u8])
     requires { length table.now ≡ table_size }
     ensures { bytes.new ≡ put_rights bytes.old table.now }
 {
-    let mut i = 0;
-    while i < RIGHTS {
-        bytes[RIGHTS_AT + i] = table[i];
-        i += 1;
-    }
+    bytes[RIGHTS_AT..RIGHTS_AT + RIGHTS].copy_from_slice(table);
 }

@@ -15,12 +15,8 @@ pub fn row_at(bytes: &Bytes, n: usize) -> Row
     ensures { result ≡ byte_row bytes.now n }
 {
     let at = n * ROW_BYTES;
-    let mut row = [0u8; ROW_BYTES];
-    let mut i = 0;
-    while i < ROW_BYTES {
-        row[i] = bytes[at + i];
-        i += 1;
-    }
+    let mut row = [0; ROW_BYTES];
+    row.copy_from_slice(&bytes[at..at + ROW_BYTES]);
     row
 }
 
@@ -29,9 +25,5 @@ pub fn put_row(bytes: &mut Bytes, n: usize, row: Row)
     ensures { bytes.new ≡ put_byte_row bytes.old n row }
 {
     let at = n * ROW_BYTES;
-    let mut i = 0;
-    while i < ROW_BYTES {
-        bytes[at + i] = row[i];
-        i += 1;
-    }
+    bytes[at..at + ROW_BYTES].copy_from_slice(&row);
 }

@@ -1,73 +1,61 @@
 // Op 0b: a thread starts a helper, which begins with its starter's stack.
 #![tactic(auto)]
 
-ghost use Rattle.std.specs.Prelude.{◌≡◌, ◌<◌, ◌≤◌};
+ghost use Rattle.std.specs.Prelude.{◌≡◌, ◌<◌};
+ghost use Rattle.layout.specs.Answer.{status_of, answer_of};
 ghost use Rattle.model.specs.State.{area_at, stack_at};
 ghost use Rattle.model.specs.Helpers.{may_enter_all, helper_rest, raised_area, raised, helper_state, helper_change};
 ghost use Rattle.model.specs.Calls as calls;
 ghost use Rattle.model.proofs.Accepted.{HelperOk};
 ghost use Rattle.tables.specs.Decode.{rights_of, Shaped, state_of, Holds};
-ghost use Rattle.tables.specs.Contract.{Changes, Answers, Ready, memory_of};
+ghost use Rattle.tables.specs.Contract.{Changes, Answers, Ready};
 ghost use Rattle.helpers.specs.Helper.{every_class};
 
-use layout::answer::Answer;
+use layout::answer::Refusal;
 use layout::stack::Place;
-use rights::Right;
-use tables::{Bytes, ThreadWords, Words};
+use rights::{Kind, Right};
+use tables::{Buffers, Bytes, ThreadWords, Words};
 
 // ---- the refusals
 
 // Whether threads of a kind may enter areas of every class: the heap, immortal memory and a scope.
-fn may_enter_every(bytes: &Bytes, kind: u64) -> bool
-    requires { (0 < kind) × (kind ≤ 3) }
+fn may_enter_every(bytes: &Bytes, kind: Kind) -> bool
     ensures { result ≡ may_enter_all (rights_of bytes.now) kind every_class }
 {
-    if !callers::kind_may(bytes, kind, Right::Enter, 0) {
-        return false;
-    }
-    if !callers::kind_may(bytes, kind, Right::Enter, 1) {
-        return false;
-    }
-    callers::kind_may(bytes, kind, Right::Enter, 2)
+    callers::kind_may(bytes, kind, Right::Enter, 0)
+        && callers::kind_may(bytes, kind, Right::Enter, 1)
+        && callers::kind_may(bytes, kind, Right::Enter, 2)
 }
 
 // Whether threads of a kind may enter the area of each entry on the stack of thread t. Where they may enter every
 // class, no entry is looked at.
-fn may_enter_all(words: &Words, bytes: &Bytes, t: usize, kind: u64) -> bool
-    requires { Ready words.now bytes.now × (t < 16) × (0 < kind) × (kind ≤ 3) }
+fn may_enter_all(words: &Words, bytes: &Bytes, t: usize, kind: Kind) -> bool
+    requires { Ready words.now bytes.now × (t < 16) }
     ensures { result ≡ may_enter_all (state_of words.now bytes.now).rights kind (stack_at (state_of words.now bytes.now) t) }
 {
     if may_enter_every(bytes, kind) {
         return true;
     }
     let len = held_threads::thread_at(words, t).len as usize;
-    let mut i = 0;
-    while i < len {
+    for i in 0..len {
         let area = held_threads::entry_at(bytes, t, Place(i)).area;
         if !callers::kind_may(bytes, kind, Right::Enter, area as u64) {
             return false;
         }
-        i += 1;
     }
     true
 }
 
-fn check_helper(words: &Words, bytes: &Bytes, t: u64, kind: u64, helper: u64) -> u64
+fn check_helper(words: &Words, bytes: &Bytes, t: u64, kind: u64, helper: u64) -> Result<(), Refusal>
     requires { Ready words.now bytes.now }
-    ensures { result ≡ helper_rest (state_of words.now bytes.now) t kind helper }
+    ensures { status_of result ≡ helper_rest (state_of words.now bytes.now) t kind helper }
 {
-    let refusal = callers::check_thread(words, bytes, t);
-    if refusal != 0 {
-        return refusal;
-    }
-    let status = threads::check_start(words, bytes, helper, kind);
-    if status != 0 {
-        return status;
-    }
+    callers::check_thread(words, bytes, t)?;
+    let kind = threads::check_start(words, bytes, helper, kind)?;
     if !may_enter_all(words, bytes, t as usize, kind) {
-        return 5;
+        return Err(Refusal::Right);
     }
-    0
+    Ok(())
 }
 
 // ---- the counts
@@ -90,11 +78,9 @@ fn raise_counts(words: &mut Words, bytes: &Bytes, t: usize)
     ensures { Holds words.new bytes.now (raised (state_of words.old bytes.now) (stack_at (state_of words.old bytes.now) t)) }
 {
     let len = held_threads::thread_at(words, t).len as usize;
-    let mut i = 0; // no count is raised yet
-    while i < len {
+    for i in 0..len { // from the lowest entry on
         let area = held_threads::entry_at(bytes, t, Place(i)).area as usize;
         raise_count(words, bytes, area);
-        i += 1;
     }
 }
 
@@ -118,40 +104,28 @@ pub fn start_helper_on(
     t: u64,
     kind: u64,
     helper: u64,
-) -> Answer
+) -> Result<u64, Refusal>
     requires { Ready words.old bytes.old }
-    ensures { Changes result (helper_change (state_of words.old bytes.old) t kind helper)
+    ensures { Changes (answer_of result) (helper_change (state_of words.old bytes.old) t kind helper)
         words.old bytes.old words.new bytes.new }
 {
-    let status = check_helper(words, bytes, t, kind, helper);
-    if status == 0 {
-        apply_helper(words, bytes, t as usize, kind, helper as usize);
-    }
-    Answer { status, value: 0 }
+    check_helper(words, bytes, t, kind, helper)?;
+    apply_helper(words, bytes, t as usize, kind, helper as usize);
+    Ok(0)
 }
 
 pub fn start_helper(
     words: &mut Words,
     bytes: &mut Bytes,
-    permanent: &[u64],
-    scratch: &[u64],
-    map: &[u64],
-    written: &[u64],
+    buffers: &Buffers<'_>,
     t: u64,
     kind: u64,
     helper: u64,
-) -> Answer
+) -> Result<u64, Refusal>
     requires { Ready words.old bytes.old }
-    ensures { Answers result (calls.start_helper t kind helper)
-        words.old bytes.old (memory_of permanent.now scratch.now map.now written.now)
-        words.new bytes.new (memory_of permanent.now scratch.now map.now written.now) }
+    ensures { Answers (answer_of result) (calls.start_helper t kind helper)
+        words.old bytes.old buffers.now words.new bytes.new buffers.now }
 {
-    let fit = callers::lengths_fit(words, bytes, permanent, scratch, map, written);
-    if !fit {
-        return Answer {
-            status: 1,
-            value: 0,
-        };
-    }
+    callers::check_lengths(words, bytes, buffers)?;
     start_helper_on(words, bytes, t, kind, helper)
 }

@@ -11,23 +11,19 @@ use layout::stack::ScopeStack;
 pub fn scopes_stack_empty() -> ScopeStack
     ensures { result ≡ empty_stack }
 {
-    layout::stack::empty()
+    ScopeStack::empty()
 }
 
 // Push: 6 for an area above 63, 9 on 32 entries, else 0; refused, the stack stays as it is.
 pub fn scopes_stack_push(s: &mut ScopeStack, area: u64) -> Answer
     ensures { (result ≡ push_answer s.old area) × (s.new ≡ pushed_stack s.old area) }
 {
-    let answer = layout::stack::push_answer(*s, area);
-    *s = layout::stack::pushed(*s, area);
-    answer
+    s.push(area).into()
 }
 
 // Pop: 11 on no entry, else 0 and the top area.
 pub fn scopes_stack_pop(s: &mut ScopeStack) -> Answer
     ensures { (result ≡ pop_answer s.old) × (s.new ≡ popped_stack s.old) }
 {
-    let answer = layout::stack::pop_answer(*s);
-    *s = layout::stack::popped(*s);
-    answer
+    s.pop().into()
 }

@@ -2,33 +2,13 @@
 ghost use Rattle.std.specs.Prelude.{◌≡◌, ◌+◌, ◌<◌, ◌≤◌, length};
 ghost use Rattle.model.specs.Objects.{filled};
 
-// Two words of 0.
-fn zero_two(store: &mut [u64], from: usize)
-    requires { from + 2 ≤ length store.old }
-    ensures { store.new ≡ filled store.old from 2 0 }
-{
-    store[from] = 0;
-    store[from + 1] = 0;
-}
-
-// Four.
-fn zero_four(store: &mut [u64], from: usize)
-    requires { from + 4 ≤ length store.old }
-    ensures { store.new ≡ filled store.old from 4 0 }
-{
-    zero_two(store, from);
-    zero_two(store, from + 2);
-}
-
-// Any number, one by one: a loop that the compiler turns into a call of memset.
-fn zero_each(store: &mut [u64], from: usize, n: usize)
+// So many words of 0: a loop that the compiler turns into a call of memset, or into stores where it knows the number.
+fn zero_run(store: &mut [u64], from: usize, n: usize)
     requires { from + n ≤ length store.old }
     ensures { store.new ≡ filled store.old from n 0 }
 {
-    let mut i = 0;
-    while i < n {
+    for i in 0..n {
         store[from + i] = 0;
-        i += 1;
     }
 }
 
@@ -39,17 +19,17 @@ pub fn zero_words(store: &mut [u64], from: usize, n: usize)
     ensures { store.new ≡ filled store.old from n 0 }
 {
     if 8 < n {
-        zero_each(store, from, n);
+        zero_run(store, from, n);
         return;
     }
     if 4 <= n {
-        zero_four(store, from);
-        zero_four(store, from + n - 4);
+        zero_run(store, from, 4);
+        zero_run(store, from + n - 4, 4);
         return;
     }
     if 2 <= n {
-        zero_two(store, from);
-        zero_two(store, from + n - 2);
+        zero_run(store, from, 2);
+        zero_run(store, from + n - 2, 2);
         return;
     }
     store[from] = 0;

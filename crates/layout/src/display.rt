@@ -15,33 +15,29 @@ pub struct Depth(pub usize);
 fn entry(is_last: bool, area: u8, kept: u8) -> u8
     ensures { result ≡ pick is_last area kept }
 {
-    if is_last {
-        return area;
-    }
-    kept
+    if is_last { area } else { kept }
 }
 
-// The parent's row, copied, with one entry more. Every entry is chosen by its place, so that the row
-// stays in registers: a row in memory with one byte just stored would stall when it is read back. The
-// mask tells the compiler that bytes are compared, and not depths.
+// The parent's row, copied, with one entry more. Every entry is chosen by its place, in a function of its own, so that the
+// row stays in registers: a row in memory with one byte just stored would stall when it is read back. The mask and the
+// count of places tell the compiler that bytes are compared: over places from `0..32` or `enumerate` it compares words,
+// in three times as many instructions.
 pub fn extended(row: Row, depth: Depth, area: u8) -> Row
     requires { depth.0 < 32 }
     ensures { result ≡ extended_row row depth.0 area }
 {
     let last = (depth.0 & 255) as u8;
     let mut next = row;
-    let mut at = 0;
     let mut place = 0u8;
-    while at < 32 {
-        let kept = next[at];
-        next[at] = entry(place == last, area, kept);
-        at += 1;
+    for kept in next.iter_mut() {
+        *kept = entry(place == last, area, *kept);
         place += 1;
     }
     next
 }
 
 // Whether a row holds an area of a depth: one look, at that depth (source 004, Algorithm 9).
+#[tactic(auto, unfolding(crate::specs::Display::row_holds))]
 pub fn holds(row: &[u8], depth: Depth, area: u8) -> bool
     requires { depth.0 ≤ length row.now }
     ensures { result ≡ row_holds row.now depth.0 area }

@@ -1,13 +1,11 @@
 -- What a line is answered, and the answers to a whole input.
 -- Assumes nothing.
-use Rattle.std.specs.Prelude.{ℕ, List, [], ◌∷◌, ◌++◌, eqb, replicate}
+use Rattle.std.specs.Prelude.{ℕ, List, [], ◌∷◌, ◌++◌, Option, Some, None, eqb, replicate}
 use Rattle.layout.specs.Choice.{pick}
 use Rattle.model.specs.Calls.{Call, outcome_of}
 use Rattle.model.specs.Ops.{call_of}
 use Rattle.model.specs.Run.{World, kept, step, begin}
 use Rattle.lines.specs.declared.frame.Fields.{Fields}
-use Rattle.lines.specs.declared.frame.Parsed.{Parsed}
-use Rattle.lines.specs.declared.frame.Parsed.TheVariants.{Frame, Bad}
 use Rattle.lines.specs.Frames.{parsed_of}
 use Rattle.lines.specs.Answers.{answer_of}
 
@@ -16,14 +14,14 @@ abbrev pub frame_call : Fields → Call
 frame_call f = call_of f.op f.thread f.p f.q f.r
 
 -- the answer to each case of a line: a frame's is its call's; "Any other line gives 18 and is skipped to its line feed"
-abbrev pub answer_to : World → Parsed → List ℕ
-answer_to w (Frame f) = answer_of (outcome_of w.state w.memory (frame_call f)).reply.status (outcome_of w.state w.memory (frame_call f)).reply.value
-answer_to w Bad = answer_of 18 0
+abbrev pub answer_to : World → Option Fields → List ℕ
+answer_to w (Some f) = answer_of (outcome_of w.state w.memory (frame_call f)).reply.status (outcome_of w.state w.memory (frame_call f)).reply.value
+answer_to w None = answer_of 18 0
 
 -- what each case leaves
-abbrev pub following : World → Parsed → World
-following w (Frame f) = step w (record { call = frame_call f; supplied = kept })
-following w Bad = w
+abbrev pub following : World → Option Fields → World
+following w (Some f) = step w (record { call = frame_call f; supplied = kept })
+following w None = w
 
 -- "Each line is answered by a line"
 unfoldable pub line_answer : World → List ℕ → List ℕ

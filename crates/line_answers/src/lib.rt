@@ -6,8 +6,7 @@ ghost use Rattle.tables.specs.Contract.{Ready};
 ghost use Rattle.line_answers.specs.Answered.{core, LineAnswered, Ended};
 
 use layout::answer::Answer;
-use lines::frame::Parsed;
-use lines::line::Text;
+use lines::line::Line;
 use tables::{Bytes, Words};
 
 // Answers a line: a frame's call is carried out; any other line gives 18 and changes nothing.
@@ -18,24 +17,22 @@ fn answer_line(
     scratch: &mut [u64],
     map: &mut [u64],
     written: &mut [u64],
-    line: &Text,
-    len: usize,
+    line: &Line,
 ) -> Answer
-    requires { (Ready words.old bytes.old) × (length line.now ≡ 40) }
+    requires { Ready words.old bytes.old }
     ensures { LineAnswered
         (core words.old bytes.old permanent.old scratch.old map.old written.old)
         (core words.new bytes.new permanent.new scratch.new map.new written.new)
-        line.now len result }
+        line.now result }
 {
-    let Parsed::Frame(f) = lines::frame::parse_line(line, len) else {
+    let Some(f) = line.parse() else {
         return Answer {
             status: 18,
             value: 0,
         };
     };
-    let op = f.op;
     scopes::carry_out(
-        words, bytes, permanent, scratch, map, written, op, f.thread, f.p, f.q, f.r,
+        words, bytes, permanent, scratch, map, written, f.op, f.thread, f.p, f.q, f.r,
     )
 }
 
@@ -47,17 +44,16 @@ pub fn end_line(
     scratch: &mut [u64],
     map: &mut [u64],
     written: &mut [u64],
-    line: &Text,
-    len: usize,
+    line: &Line,
     output: &mut [u8],
     at: usize,
 )
-    requires { (Ready words.old bytes.old) × (length line.now ≡ 40) × (at + 19 ≤ length output.old) }
+    requires { (Ready words.old bytes.old) × (at + 19 ≤ length output.old) }
     ensures { Ended
         (core words.old bytes.old permanent.old scratch.old map.old written.old)
         (core words.new bytes.new permanent.new scratch.new map.new written.new)
-        line.now len output.old at output.new }
+        line.now output.old at output.new }
 {
-    let a = answer_line(words, bytes, permanent, scratch, map, written, line, len);
+    let a = answer_line(words, bytes, permanent, scratch, map, written, line);
     lines::answer::write_answer(output, at, a.status, a.value);
 }

@@ -1,2 +1,2 @@
--- The laws of reading a frame, one for each way that it ends.
+-- The laws of reading a frame.
 pub mod FrameLaws

@@ -1,11 +1,10 @@
 -- Laws of answers: digits written from the lowest on, and runs written one after the other.
 -- Assumes nothing.
-use Rattle.std.specs.Prelude.{◌≡◌, refl, List, [], ◌∷◌, ◌++◌, ℕ, zero, suc, ◌+◌, ◌-◌, ◌/◌, ◌%◌, ◌^◌, ◌≤◌, ◌<◌, length, set}
-use Rattle.std.proofs.Common.{ap, ◌∙◌, add-zero, pow-suc, arith, length-append}
-use Rattle.std.proofs.Math.Nat.{div-div-eq-div-mul}
-use Rattle.std.proofs.lemmas.List.Edits.{sets}
-use Rattle.std.proofs.Math.Seq.{length-sets}
-use Rattle.std.proofs.lemmas.List.{set_comm}
+use Rattle.std.specs.Prelude.{◌≡◌, refl, List, [], ◌∷◌, ◌++◌, ℕ, zero, suc, ◌+◌, ◌-◌, ◌*◌, ◌/◌, ◌%◌, ◌^◌, ◌≤◌, ◌<◌, ◌≢◌, length, get_or, set, take, drop}
+use Rattle.std.proofs.Common.{ap, ◌∙◌, add-zero, pow-suc, arith, below_more, length-append, append_assoc, length-take, length-drop, get_or-set_same, get_or-set_other}
+use Rattle.std.proofs.lemmas.List.{drop-drop}
+use Rattle.std.proofs.lemmas.List.Edits.{sets, sets-eq}
+use Rattle.std.proofs.lemmas.Nat.{pow-add}
 use Rattle.lines.specs.Answers.{digit_of, digits_of, answer_of}
 
 -- ---- runs of stores
@@ -16,13 +15,6 @@ sets_sets [] l i t = rw (add-zero i) refl
 sets_sets (a ∷ s) l i t =
     let e : i + suc (length s) ≡ suc i + length s = omega arith in
     rw e (sets_sets s (set l i a) (suc i) t)
-
--- a store before a run
-sets_before : (s l : List ℕ) (i j a : ℕ) → i < j → set (sets l j s) i a ≡ sets (set l i a) j s
-sets_before [] l i j a h = refl
-sets_before (b ∷ s) l i j a h =
-    sets_before s (set l j b) i (suc j) a (omega arith)
-    ∙ ap (λ (m : List ℕ). sets m (suc j) s) (set_comm l j i b a (λ e. omega arith))
 
 -- ---- digits
 
@@ -37,39 +29,48 @@ length_answer s v =
     length-append (digits_of s 2) _ ∙ ap (λ (n : ℕ). length (digits_of s 2) + n) (length-append (digits_of v 16) (10 ∷ []))
     ∙ rw (length_digits s 2, length_digits v 16) refl
 
--- Digits are written from the lowest on: those that stand from at + i on are the n - i lowest of v, and rest is v without them.
-pub record Lowest (first : List ℕ) (at v n rest i : ℕ) (l : List ℕ) : Type 0 where
-  pub within : i ≤ n
-  pub left : rest ≡ v / 16 ^ (n - i)
-  pub written : l ≡ sets first (at + i) (digits_of v (n - i))
+-- the digit of v at place k of n, the highest first
+abbrev pub digit_at : ℕ → ℕ → ℕ → ℕ
+digit_at v n k = digit_of (v / 16 ^ (n - (k + 1)) % 16)
 
-pub lowest_none : (l : List ℕ) (at v n : ℕ) → Lowest l at v n v n l
+-- the first i of n digits of v are written
+abbrev pub Written : List ℕ → ℕ → ℕ → ℕ → Type 0
+Written l v n i = (k : ℕ) → k < i → get_or l k 0 ≡ digit_at v n k
+
+four_bits : (k : ℕ) → 2 ^ (4 * k) ≡ 16 ^ k
+four_bits zero = refl
+four_bits (suc k) =
+    let e : 4 * suc k ≡ 4 + 4 * k = omega arith in
+    rw (e, pow-add 2 4 (4 * k), four_bits k, pow-suc 16 k) (omega arith)
+
+-- one digit more
+pub written_more : (l : List ℕ) (v n i shift : ℕ) → i < length l → shift + 4 * i ≡ 4 * n → Written l v n i
+    → Written (set l i (digit_of (v / 2 ^ (shift - 4) % 16))) v n (i + 1)
+written_more l v n i shift h e w =
+    let p : shift - 4 ≡ 4 * (n - (i + 1)) = omega arith in
+    below_more _ _
+    (λ k g. let ne : k ≢ i = omega arith in rw get_or-set_other (w k g))
+    (rw (get_or-set_same, p, four_bits (n - (i + 1))) refl)
+
+-- all digits
+pub written_all : (l : List ℕ) (v n : ℕ) → length l ≡ n → Written l v n n → l ≡ digits_of v n
 unfolding digits_of
-lowest_none l at v n =
-    let e : n - n ≡ 0 = omega arith in
-    record { within = omega arith; left = rw e (omega arith); written = rw e refl }
+written_all [] v zero e w = refl
+written_all [] v (suc n) e w = absurd (omega arith)
+written_all (b ∷ l) v zero e w = absurd (omega arith)
+written_all (b ∷ l) v (suc n) e w =
+    let first : suc n - (0 + 1) ≡ n = omega arith in
+    let head : b ≡ digit_of (v / 16 ^ n % 16) = rw first at (w 0 (omega arith)) in
+    rw (head, written_all l v n (omega arith) (λ k g. let m : suc n - (suc k + 1) ≡ n - (k + 1) = omega arith in rw m at (w (suc k) (omega arith)))) refl
 
--- the digit before those that are written
-pub lowest_more : (l first : List ℕ) (at v n rest i : ℕ) → 0 < i → Lowest first at v n rest i l
-    → Lowest first at v n (rest / 16) (i - 1) (set l (at + (i - 1)) (digit_of (rest % 16)))
-unfolding digits_of
-lowest_more l first at v n rest i h s =
-    let k : n - (i - 1) ≡ suc (n - i) = omega (arith, s.within) in
-    let f : at + i ≡ suc (at + (i - 1)) = omega arith in
-    record {
-      within = omega (arith, s.within);
-      left = rw (k, s.left, pow-suc 16 (n - i)) (div-div-eq-div-mul v (16 ^ (n - i)) 16);
-      written = rw (k, s.written, f, s.left) (sets_before (digits_of v (n - i)) first (at + (i - 1)) (suc (at + (i - 1))) (digit_of (v / 16 ^ (n - i) % 16)) (omega arith));
-    }
-
-pub lowest_all : (l first : List ℕ) (at v n rest i : ℕ) → i ≤ 0 → Lowest first at v n rest i l → l ≡ sets first at (digits_of v n)
-lowest_all l first at v n rest i h s =
-    let e : at + i ≡ at = omega arith in
-    let f : n - i ≡ n = omega arith in
-    rw (e, f) at s.written
-
-pub lowest_length : (l first : List ℕ) (at v n rest i : ℕ) → Lowest first at v n rest i l → length l ≡ length first
-lowest_length l first at v n rest i s = rw s.written (length-sets first (at + i) (digits_of v (n - i)))
+-- the digits in a part are a run of stores
+pub part_written : (l part : List ℕ) (at k v n : ℕ) → k ≡ n → at + n ≤ length l → part ≡ digits_of v (length (take k (drop at l)))
+    → take at l ++ (part ++ drop k (drop at l)) ≡ sets l at (digits_of v n)
+part_written l part at k v n e h d =
+    let m : length (take k (drop at l)) ≡ n = omega (arith, length-take k (drop at l), length-drop at l) in
+    let p : part ≡ digits_of v n = d ∙ ap (digits_of v) m in
+    let s : k ≡ length (digits_of v n) = omega (arith, length_digits v n) in
+    rw (p, s, sets-eq (digits_of v n) l at (omega arith), append_assoc, drop-drop) refl
 
 -- ---- an answer
 

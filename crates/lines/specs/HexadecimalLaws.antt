@@ -1,78 +1,58 @@
 -- Laws of runs of digits, and of the number of a field.
 -- Assumes nothing.
-use Rattle.std.specs.Prelude.{◌≡◌, refl, Bool, true, false, ◌&&◌, List, [], ◌∷◌, ◌++◌, ℕ, zero, suc, ◌+◌, ◌*◌, ◌^◌, ◌≤◌, ◌<◌, length, take, drop, get_or}
-use Rattle.std.proofs.Common.{sym, ap, ◌∙◌, pow-suc, add-one, arith, length-drop, take-suc, drop-cons, get_or-drop}
+use Rattle.std.specs.Prelude.{◌≡◌, refl, Bool, true, false, ◌&&◌, List, [], ◌∷◌, ℕ, zero, suc, ◌+◌, ◌*◌, ◌^◌, ◌≤◌, ◌<◌, length, take, drop, get_or, fold}
+use Rattle.std.proofs.Common.{add-one, pow-suc, arith, length-take}
+use Rattle.std.proofs.lemmas.List.Sums.{fold_more}
 use Rattle.std.proofs.Math.Nat.{pow-le-pow_right}
 use Rattle.layout.specs.Choice.{and_true}
 use Rattle.hexadecimal.specs.Digit.{is_digit, digit_value}
 use Rattle.hexadecimal.specs.DigitLaws.{value_small}
-use Rattle.lines.specs.Hexadecimal.{all_digits, number_from, field_of, Digits}
+use Rattle.lines.specs.Hexadecimal.{all_digits, number_from, Digits}
 
 -- ---- all digits
 
-none_left : (l : List ℕ) (n : ℕ) → length l ≤ n → true ≡ all_digits (drop n l)
-unfolding all_digits
-none_left [] zero h = refl
-none_left [] (suc n) h = refl
-none_left (b ∷ l) zero h = absurd (omega arith)
-none_left (b ∷ l) (suc n) h = none_left l n (omega arith)
+-- every byte is looked at
+pub digits_from : (a : Bool) (l : List ℕ) → fold (λ (all : Bool) (b : ℕ). all && is_digit b) a l ≡ a && all_digits l
+digits_from true [] = refl
+digits_from false [] = refl
+digits_from true (b ∷ l) = digits_from (is_digit b) l
+digits_from false (b ∷ l) = digits_from false l
 
-one_more : (l : List ℕ) (i : ℕ) → i < length l → all_digits (drop i l) ≡ is_digit (get_or l i 0) && all_digits (drop (suc i) l)
-unfolding all_digits
-one_more l i h = rw (drop-cons l i 0 h) refl
+-- a part of digits is digits
+digits_take : (n : ℕ) (l : List ℕ) → all_digits l ≡ true → all_digits (take n l) ≡ true
+digits_take zero l e = refl
+digits_take (suc n) [] e = refl
+digits_take (suc n) (b ∷ l) e = let s = and_true (is_digit b) (all_digits l) e in rw (s.0, digits_take n l s.1) refl
 
--- a says whether the bytes before place i are digits
-module _ (l : List ℕ) (i : ℕ) where
-  -- one byte more
-  pub one_further : (a : Bool) {d : Bool} → i < length l → d ≡ is_digit (get_or l i 0) → a && all_digits (drop i l) ≡ all_digits l
-      → (a && d) && all_digits (drop (i + 1) l) ≡ all_digits l
-  one_further true h e v = rw (add-one, e) (sym (one_more l i h) ∙ v)
-  one_further false h e v = v
+digits_drop : (n : ℕ) (l : List ℕ) → all_digits l ≡ true → all_digits (drop n l) ≡ true
+digits_drop zero l e = e
+digits_drop (suc n) [] e = refl
+digits_drop (suc n) (b ∷ l) e = digits_drop n l (and_true (is_digit b) (all_digits l) e).1
 
-  -- none is left
-  pub all_read : (a : Bool) → length l ≤ i → a && all_digits (drop i l) ≡ all_digits l → a ≡ all_digits l
-  all_read true h v = none_left l i h ∙ v
-  all_read false h v = v
+pub digits_part : (at n : ℕ) (l : List ℕ) → n ≤ 16 → all_digits l ≡ true → Digits (take n (drop at l))
+digits_part at n l h e = record { short = omega (arith, length-take n (drop at l)); digits = digits_take n (drop at l) (digits_drop at l e) }
 
 digit_at : (l : List ℕ) (i : ℕ) → all_digits l ≡ true → i < length l → is_digit (get_or l i 0) ≡ true
-unfolding all_digits
 digit_at [] i e h = absurd (omega arith)
 digit_at (b ∷ l) zero e h = (and_true (is_digit b) (all_digits l) e).0
 digit_at (b ∷ l) (suc i) e h = digit_at l i (and_true (is_digit b) (all_digits l) e).1 (omega arith)
 
 -- ---- the number of a field
 
-number_append : (v : ℕ) (l : List ℕ) (b : ℕ) → number_from v (l ++ (b ∷ [])) ≡ number_from v l * 16 + digit_value b
-unfolding number_from
-number_append v [] b = refl
-number_append v (c ∷ l) b = number_append (v * 16 + digit_value c) l b
-
 -- one digit more
-pub field_more : (l : List ℕ) (at i : ℕ) → at + i < length l → field_of l at (suc i) ≡ field_of l at i * 16 + digit_value (get_or l (at + i) 0)
-unfolding field_of
-field_more l at i h =
-    let inside : i < length (drop at l) = omega (arith, length-drop at l) in
-    ap (number_from 0) (take-suc (drop at l) i 0 inside)
-    ∙ number_append 0 (take i (drop at l)) (get_or (drop at l) i 0)
-    ∙ ap (λ (b : ℕ). number_from 0 (take i (drop at l)) * 16 + digit_value b) (get_or-drop at l i 0)
+number_more : (l : List ℕ) (i : ℕ) → i < length l → number_from 0 (take (suc i) l) ≡ number_from 0 (take i l) * 16 + digit_value (get_or l i 0)
+number_more l i h = rw add-one at (fold_more (λ (v b : ℕ). v * 16 + digit_value b) 0 l i 0 h)
 
-pub field_none : (l : List ℕ) (at : ℕ) → 0 ≡ field_of l at 0
-unfolding field_of number_from
-field_none l at = refl
-
-module _ {l : List ℕ} {at n : ℕ} (d : Digits l at n) where
-  pub field_digit : (i : ℕ) → i < n → is_digit (get_or l (at + i) 0) ≡ true
-  field_digit i h = digit_at l (at + i) d.digits (omega arith)
-
+module _ {l : List ℕ} (d : Digits l) where
   -- below 16^i
-  field_below : (i : ℕ) → i ≤ n → field_of l at i < 16 ^ i
-  field_below zero h = omega (arith, field_none l at)
-  field_below (suc i) h =
-      let ih = field_below i (omega arith) in
-      omega (arith, field_more l at i (omega arith), value_small (get_or l (at + i) 0) (field_digit i (omega arith)), pow-suc 16 i)
+  number_below : (i : ℕ) → i ≤ length l → number_from 0 (take i l) < 16 ^ i
+  number_below zero h = omega arith
+  number_below (suc i) h =
+      let ih = number_below i (omega arith) in
+      omega (arith, number_more l i (omega arith), value_small (get_or l i 0) (digit_at l i d.digits (omega arith)), pow-suc 16 i)
 
   -- a digit more still fits a word
-  pub field_fits : (i : ℕ) → i < n → field_of l at i * 16 + digit_value (get_or l (at + i) 0) < 2 ^ 64
-  field_fits i h =
-      let m : 16 ^ suc i ≤ 16 ^ 16 = pow-le-pow_right {n = 16} (omega arith) {i = suc i} {j = 16} (omega arith) in
-      omega (arith, field_more l at i (omega arith), field_below (suc i) (omega arith))
+  pub number_fits : (i : ℕ) → i < length l → number_from 0 (take i l) * 16 + digit_value (get_or l i 0) < 2 ^ 64
+  number_fits i h =
+      let m : 16 ^ suc i ≤ 16 ^ 16 = pow-le-pow_right {n = 16} (omega arith) {i = suc i} {j = 16} (omega (arith, d.short)) in
+      omega (arith, number_more l i h, number_below (suc i) (omega arith))

@@ -3,27 +3,24 @@ ghost use Rattle.std.specs.Prelude.{◌≡◌, ◌+◌, ◌<◌, ◌≤◌, leng
 ghost use Rattle.std.proofs.lemmas.List.Edits.{sets};
 ghost use Rattle.lines.specs.Answers.{digit_of, digits_of, answer_of};
 
+#[tactic(auto, unfolding(crate::specs::Answers::digit_of))]
 fn digit_of(v: u8) -> u8
     requires { v < 16 }
     ensures { result ≡ digit_of v }
 {
-    if v < 10 {
-        return b'0' + v;
-    }
-    87 + v
+    if v < 10 { b'0' + v } else { 87 + v }
 }
 
-// The n lowest digits of v, from the lowest on, which stands last.
-fn write_digits(output: &mut [u8], at: usize, v: u64, n: usize)
-    requires { at + n ≤ length output.old }
-    ensures { output.new ≡ sets output.old at (digits_of v n) }
+// The lowest digits of v, as many as there is room for. Each is found by itself, so that the compiler
+// can write several at a time.
+fn write_digits(digits: &mut [u8], v: u64)
+    requires { length digits.old ≤ 16 }
+    ensures { digits.new ≡ digits_of v (length digits.old) }
 {
-    let mut rest = v;
-    let mut i = n;
-    while 0 < i {
-        i -= 1;
-        output[at + i] = digit_of((rest % 16) as u8);
-        rest = rest / 16;
+    let mut shift = 4 * digits.len();
+    for digit in digits.iter_mut() {
+        shift -= 4;
+        *digit = digit_of(((v >> shift) % 16) as u8);
     }
 }
 
@@ -32,7 +29,7 @@ pub fn write_answer(output: &mut [u8], at: usize, status: u64, value: u64)
     requires { at + 19 ≤ length output.old }
     ensures { output.new ≡ sets output.old at (answer_of status value) }
 {
-    write_digits(output, at, status, 2);
-    write_digits(output, at + 2, value, 16);
+    write_digits(&mut output[at..at + 2], status);
+    write_digits(&mut output[at + 2..at + 18], value);
     output[at + 18] = b'\n';
 }

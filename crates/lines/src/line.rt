@@ -1,19 +1,48 @@
 // The line so far: no more than 40 of its bytes are kept, in place.
-ghost use Rattle.std.specs.Prelude.{◌≡◌, List, [], ◌∷◌, ◌++◌, ℕ, length};
+ghost use Rattle.std.specs.Prelude.{◌≡◌, ◌↔◌, IsTrue, List, [], ◌∷◌, ◌++◌, ℕ};
 ghost use Rattle.lines.specs.Lines.{Buffered};
 
-// As many bytes as a frame has.
-pub type Text = [u8; 40];
+// The first bytes of a line, as many as a frame has, and how many bytes the line has: 41 stands for
+// every length past 40, so that a longer line costs no memory.
+#[derive(Clone, Copy)]
+pub struct Line {
+    pub text: [u8; 40],
+    pub len: usize,
+}
 
-// One byte more, which is no line feed. The count stops at 41, so that a longer line costs no memory.
-pub fn add_byte(line: &mut Text, len: usize, b: u8) -> usize
-    requires { length line.old ≡ 40 }
-    ensures sized { length line.new ≡ 40 }
-    ensures buffered { (l : List ℕ) → Buffered line.old len l → Buffered line.new result (l ++ (b ∷ [])) }
-{
-    if 40 <= len {
-        return 41;
+impl Line {
+    // A line with no bytes.
+    pub fn new() -> Line
+        ensures { Buffered result [] }
+    {
+        Line {
+            text: [0; 40],
+            len: 0,
+        }
     }
-    line[len] = b;
-    len + 1
+
+    pub fn is_empty(&self) -> bool
+        ensures { (l : List ℕ) → Buffered self.now l → IsTrue result ↔ l ≡ [] }
+    {
+        self.len == 0
+    }
+
+    // One byte more, which is no line feed.
+    pub fn add_byte(&mut self, b: u8)
+        ensures { (l : List ℕ) → Buffered self.old l → Buffered self.new (l ++ (b ∷ [])) }
+    {
+        if 40 <= self.len {
+            self.len = 41;
+            return;
+        }
+        self.text[self.len] = b;
+        self.len += 1;
+    }
+
+    // The next line begins.
+    pub fn clear(&mut self)
+        ensures { Buffered self.new [] }
+    {
+        self.len = 0;
+    }
 }

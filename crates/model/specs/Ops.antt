@@ -1,14 +1,13 @@
 -- The one table of ops: the number of each, the fields that it uses and its call.
 -- Assumes nothing.
-use Rattle.std.specs.Prelude.{ℕ, ◌≡◌, refl, Bool, true, false, List, [], ◌∷◌, eqb}
+use Rattle.std.specs.Prelude.{ℕ, ◌≡◌, refl, Bool, true, false, List, [], ◌∷◌, Option, Some, None, eqb}
 use Rattle.layout.specs.Choice.{pick}
 use Rattle.model.specs.declared.Op.{Op}
 use Rattle.model.specs.declared.Op.TheVariants.{State, Memory, Question}
 use Rattle.model.specs.declared.StateOp.TheVariants.{Start, End, Make, Enter, Exit, StartHelper, Remove}
 use Rattle.model.specs.declared.MemoryOp.TheVariants.{Allocate, Store, Write}
 use Rattle.model.specs.declared.QuestionOp.TheVariants.{Load, Read}
-use Rattle.model.specs.declared.Opcode.{Opcode}
-use Rattle.model.specs.declared.Opcode.TheVariants.{Known, Unknown}
+use Rattle.model.specs.declared.Form.{Form}
 use Rattle.model.specs.Calls.{Call, start, end, make, enter, exit, start_helper, remove, allocate, store, load, write, read}
 
 -- a row of the table "op | call (fields used)": the number, which of p, q and r are used, and the call; every op uses the thread t
@@ -55,19 +54,19 @@ ops =
     ∷ State StartHelper ∷ State Remove ∷ []
 
 -- an op with the "(fields used)"
-abbrev pub code_of : Op → Opcode
-code_of o = Known o (row_of o).p (row_of o).q (row_of o).r
+abbrev pub code_of : Op → Option Form
+code_of o = Some (record { op = o; p = (row_of o).p; q = (row_of o).q; r = (row_of o).r })
 
 abbrev pub call_of : Op → (t p q r : ℕ) → Call
 call_of o t p q r = (row_of o).call t p q r
 
 -- what the number n stands for among some ops
-abbrev pub op_among : List Op → ℕ → Opcode
-op_among [] n = Unknown
+abbrev pub op_among : List Op → ℕ → Option Form
+op_among [] n = None
 op_among (o ∷ l) n = pick (eqb n (row_of o).number) (code_of o) (op_among l n)
 
 -- "op 2 (one that exists)"
-unfoldable pub op_of : ℕ → Opcode
+unfoldable pub op_of : ℕ → Option Form
 op_of n = op_among ops n
 
 -- every op stands in the list, and no two have one number

@@ -58,9 +58,11 @@ pub enum Op {
     Question(QuestionOp),
 }
 
-// What the number of an op stands for: an op, and whether it uses the fields p, q and r.
+// The op of a number, and which of the fields p, q and r it uses.
 #[derive(Clone, Copy)]
-pub enum Opcode {
-    Known(Op, bool, bool, bool),
-    Unknown,
+pub struct Form {
+    pub op: Op,
+    pub p: bool,
+    pub q: bool,
+    pub r: bool,
 }

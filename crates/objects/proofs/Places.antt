@@ -1,6 +1,6 @@
 -- Where the words of an area lie in the lent memory, and what a live handle has passed.
 -- Assumes nothing.
-use Rattle.std.specs.Prelude.{ℕ, suc, ◌+◌, ◌*◌, ◌≤◌, ◌<◌, true, false, ◌||◌, List, refl, eqb, leb, ltb, length}
+use Rattle.std.specs.Prelude.{ℕ, suc, ◌+◌, ◌*◌, ◌≤◌, ◌<◌, true, false, ◌||◌, List, refl, eqb, leb, ltb, length, Option, Some, None}
 use Rattle.std.proofs.Math.Path.{◌≡◌, sym}
 use Rattle.std.proofs.Common.{◌∙◌, arith}
 use borrow.Author.Tests.{ltb-true, ltb-false, leb-true, eqb-true, eq-eqb, ne_eqb, lt-ltb, le-leb}
@@ -9,14 +9,12 @@ use Rattle.layout.specs.Handle.{null, offset_of, area_of, generation_of}
 use Rattle.layout.specs.HandleLaws.{area_lt, slots_lt, data_lt}
 use Rattle.layout.specs.Header.{slots_of, data_of}
 use Rattle.bitmap.specs.Bitmap.{bit_at}
-use Rattle.model.specs.State.{State, Memory, area_at, is_scope, is_open, store_of, bit_index}
+use Rattle.model.specs.State.{State, Memory, area_at, is_scope, is_open, store_of, bit_index, with_written}
 use Rattle.model.specs.Checks.{header_at, live, is_object, is_reference}
 use Rattle.model.specs.Invariant.{Good}
 use Rattle.model.proofs.PlacedWords.{inside}
 use Rattle.stores.specs.Stores.{pick_most}
 use Rattle.objects.specs.declared.find.Resolved.{Resolved}
-use Rattle.objects.specs.declared.find.Found.{Found}
-use Rattle.objects.specs.declared.find.Found.TheVariants.{At, Nothing}
 use Rattle.objects.specs.Fits.{StoresFitIn}
 use Rattle.objects.specs.Found.{object_of, found_of, RefusedAs}
 
@@ -99,29 +97,27 @@ module _ (s : State) (m : Memory) (h : ℕ) where
   ) (le-leb (suc (offset_of h + slots_of (header_at s m h) + data_of (header_at s m h))) (area_at s (area_of h)).used l.whole)
 
   -- the two ways that a lookup ends
-  pub found_at : Good s → Live → At (object_of s m h) ≡ found_of s m h
+  pub found_at : Good s → Live → Some (object_of s m h) ≡ found_of s m h
   unfolding found_of
-  found_at g l = sym (pick_true (live s m h) (At (object_of s m h)) Nothing (ok_live g l))
+  found_at g l = sym (pick_true (live s m h) (Some (object_of s m h)) None (ok_live g l))
 
-  pub found_nothing : (Live → ⊥) → Nothing ≡ found_of s m h
+  pub found_nothing : (Live → ⊥) → None ≡ found_of s m h
   unfolding found_of
-  found_nothing n = cases (live s m h) (λ e. absurd (n (live_ok e))) (λ e. sym (pick_false (live s m h) (At (object_of s m h)) Nothing e))
+  found_nothing n = cases (live s m h) (λ e. absurd (n (live_ok e))) (λ e. sym (pick_false (live s m h) (Some (object_of s m h)) None e))
 
   -- and what each says
-  pub at_live : (o : Resolved) → At o ≡ found_of s m h → (live s m h ≡ true) × (o ≡ object_of s m h)
+  pub at_live : (o : Resolved) → Some o ≡ found_of s m h → (live s m h ≡ true) × (o ≡ object_of s m h)
   unfolding found_of
   at_live o e =
       cases (live s m h)
-      (λ k. (k, let d : At o ≡ At (object_of s m h) = e ∙ pick_true (live s m h) (At (object_of s m h)) Nothing k in cc))
-      (λ k. let d : At o ≡ Nothing = e ∙ pick_false (live s m h) (At (object_of s m h)) Nothing k in
-      let z : ◌≡◌ {A = ℕ} 0 1 = cc in absurd (omega arith))
+      (λ k. (k, let d : Some o ≡ Some (object_of s m h) = e ∙ pick_true (live s m h) (Some (object_of s m h)) None k in cc))
+      (λ k. let d : Some o ≡ None = e ∙ pick_false (live s m h) (Some (object_of s m h)) None k in cc)
 
-  pub nothing_live : Nothing ≡ found_of s m h → live s m h ≡ false
+  pub nothing_live : None ≡ found_of s m h → live s m h ≡ false
   unfolding found_of
   nothing_live e =
       cases (live s m h)
-      (λ k. let d : Nothing ≡ At (object_of s m h) = e ∙ pick_true (live s m h) (At (object_of s m h)) Nothing k in
-      let z : ◌≡◌ {A = ℕ} 0 1 = cc in absurd (omega arith))
+      (λ k. let d : None ≡ Some (object_of s m h) = e ∙ pick_true (live s m h) (Some (object_of s m h)) None k in cc)
       (λ k. k)
 
 -- null leads to nothing: the heap's generation is 1
@@ -140,17 +136,35 @@ object_live s m p g =
     (λ e. rw e refl)
 
 -- the numbers of what a lookup finds are those of refusals 13 and 15
-number_is : (s : State) (m : Memory) (h : ℕ) → Good s → {r : Found} → r ≡ found_of s m h → RefusedAs s m h r
+number_is : (s : State) (m : Memory) (h : ℕ) → Good s → {r : Option Resolved} → r ≡ found_of s m h → RefusedAs s m h r
 unfolding found_of refuse is_reference
 number_is s m h g e = record {
   as_object = rw (e, object_live s m h g) (cases (live s m h) (λ k. rw k) (λ k. rw k));
   as_reference = λ n. rw (e, ne_eqb h 0 n) (cases (live s m h) (λ k. rw k) (λ k. rw k));
 }
 
--- whatever the written map is
-pub refused_as : (s : State) (m : List ℕ → Memory) (h : ℕ) → Good s → {r : Found} → ((x : List ℕ) → r ≡ found_of s (m x) h)
-    → ((x : List ℕ) → r ≡ found_of s (m x) h) × ((x : List ℕ) → RefusedAs s (m x) h r)
-refused_as s m h g e = (e, λ x. number_is s (m x) h g (e x))
+-- a look-up's answer by both clauses
+pub looked_up : (s : State) (m : Memory) (h : ℕ) → Good s → {r : Option Resolved} → r ≡ found_of s m h → record { found : r ≡ found_of s m h; number : RefusedAs s m h r }
+looked_up s m h g e = record { found = e; number = number_is s m h g e }
+
+-- ---- whatever the written map is, x, the same is found
+
+module _ (s : State) (m : Memory) (x : List ℕ) (h : ℕ) where
+  pub object_any : object_of s (with_written m x) h ≡ object_of s m h
+  unfolding object_of
+  object_any = refl
+
+  pub live_any : live s (with_written m x) h ≡ live s m h
+  unfolding live
+  live_any = refl
+
+  pub found_any : found_of s (with_written m x) h ≡ found_of s m h
+  unfolding found_of live object_of
+  found_any = refl
+
+  pub number_any : (r : Option Resolved) → RefusedAs s m h r → RefusedAs s (with_written m x) h r
+  unfolding is_object is_reference
+  number_any r n = record { as_object = rw live_any n.as_object; as_reference = λ k. rw live_any (n.as_reference k) }
 
 -- ---- the object that a handle leads to
 

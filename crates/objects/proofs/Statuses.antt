@@ -1,6 +1,6 @@
 -- One law for each way that the checks of every call on an object end.
 -- Assumes nothing.
-use Rattle.std.specs.Prelude.{ℕ, ◌≤◌, ◌<◌, true, false, ◌≡◌, refl, ◌≢◌, leb}
+use Rattle.std.specs.Prelude.{ℕ, List, ◌≤◌, ◌<◌, true, false, ◌≡◌, refl, ◌≢◌, leb, Some, None}
 use Rattle.std.proofs.Math.Bool.{not}
 use Rattle.std.proofs.Math.Path.{sym, ap, fun_ext}
 use Rattle.std.proofs.Common.{◌∙◌, subst, leb-false, le-leb}
@@ -9,18 +9,17 @@ use Rattle.layout.specs.Choice.{refuse, hit, skip, peel}
 use Rattle.layout.specs.Handle.{area_of}
 use Rattle.layout.specs.Header.{slots_of, data_of}
 use Rattle.rights.specs.declared.Right.TheVariants.{Use}
-use Rattle.model.specs.State.{State, Memory}
-use Rattle.model.specs.Checks.{has_right, header_at, is_object, use_rest}
+use Rattle.model.specs.State.{State, Memory, with_written}
+use Rattle.model.specs.Checks.{has_right, header_at, live, is_object, use_rest}
 use Rattle.model.specs.References.{slot_rest}
 use Rattle.model.specs.Data.{data_rest}
 use Rattle.model.specs.Invariant.{Good}
 use Rattle.model.proofs.Accepted.{UseOk, use_ok}
 use Rattle.objects.specs.declared.find.Resolved.{Resolved}
-use Rattle.objects.specs.declared.find.Found.TheVariants.{At, Nothing}
 use Rattle.objects.specs.declared.index.Part.{Part}
 use Rattle.objects.specs.declared.index.Part.TheVariants.{Slots, Data}
 use Rattle.objects.specs.Found.{object_of, found_of}
-use Rattle.objects.specs.Indexed.{part_count, index_rest}
+use Rattle.objects.specs.Indexed.{part_count, index_rest, word_of}
 use Rattle.objects.proofs.Places.{at_live, nothing_live, object_live}
 use Rattle.objects.specs.Chains.{Chain, chain_none, chain_more}
 
@@ -40,7 +39,7 @@ module _ (s : State) (m : Memory) (p : ℕ) (o : Resolved) where
     unfolding object_of
     data_words_is = ap (λ (x : Resolved). x.data_words) e
 
-  pub found_area : At o ≡ found_of s m p → o.area ≡ area_of p
+  pub found_area : Some o ≡ found_of s m p → o.area ≡ area_of p
   found_area e = area_is (at_live s m p o e).1
 
 module _ (s : State) (m : Memory) (t p : ℕ) where
@@ -53,11 +52,11 @@ module _ (s : State) (m : Memory) (t p : ℕ) where
       (chain_more (λ (n : ℕ). n) (not (is_object s m p)) 12 chain_none)
 
   module _ (g : Good s) where
-    pub use_nothing : Nothing ≡ found_of s m p → 13 ≡ use_rest s m t p 0
+    pub use_nothing : None ≡ found_of s m p → 13 ≡ use_rest s m t p 0
     unfolding use_rest
     use_nothing e = sym (hit (not (is_object s m p)) 13 _ (ap not (object_live s m p g ∙ nothing_live s m p e)))
 
-    module _ (o : Resolved) (e : At o ≡ found_of s m p) where
+    module _ (o : Resolved) (e : Some o ≡ found_of s m p) where
       found : not (is_object s m p) ≡ false
       found = ap not (object_live s m p g ∙ (at_live s m p o e).0)
 
@@ -105,3 +104,20 @@ module _ (part : Part) (s : State) (m : Memory) (t p q : ℕ) where
   index_ok z =
       let a = use_ok s m t p _ (sym (index_rest_lem part s m t p q 0) ∙ z) in
       (a.0, leb-false (part_count part (object_of s m p)) q (peel _ _ _ a.1).0)
+
+-- ---- whatever the written map is, x, the refusals are the same, and the word
+
+module _ (s : State) (m : Memory) (x : List ℕ) (t p : ℕ) where
+  pub use_any : (rest : ℕ) → use_rest s (with_written m x) t p rest ≡ use_rest s m t p rest
+  unfolding use_rest is_object live
+  use_any rest = refl
+
+  pub index_any : (part : Part) (q rest : ℕ) → index_rest part s (with_written m x) t p q rest ≡ index_rest part s m t p q rest
+  unfolding slot_rest data_rest use_rest is_object live
+  index_any Slots q rest = refl
+  index_any Data q rest = refl
+
+  pub word_any : (part : Part) (q : ℕ) → word_of part s (with_written m x) p q ≡ word_of part s m p q
+  unfolding word_of
+  word_any Slots q = refl
+  word_any Data q = refl

@@ -1,6 +1,6 @@
 -- One law for each way that a lookup ends, over what its code has read.
 -- Assumes nothing.
-use Rattle.std.specs.Prelude.{ℕ, suc, ◌+◌, ◌-◌, ◌/◌, ◌≤◌, ◌<◌, List, ◌≡◌, refl, leb, length, get_or}
+use Rattle.std.specs.Prelude.{ℕ, suc, ◌+◌, ◌-◌, ◌/◌, ◌≤◌, ◌<◌, List, ◌≡◌, refl, leb, length, get_or, Some, None}
 use Rattle.std.proofs.Math.Path.{sym}
 use Rattle.std.proofs.Common.{ap, ◌∙◌, arith, leb-true, leb-false, le-leb}
 use Rattle.std.proofs.lemmas.Bool.{lt-leb}
@@ -15,7 +15,6 @@ use Rattle.model.specs.Checks.{header_at}
 use Rattle.model.specs.Invariant.{Good}
 use Rattle.tables.specs.Decode.{state_of}
 use Rattle.tables.specs.Contract.{Ready}
-use Rattle.objects.specs.declared.find.Found.TheVariants.{At, Nothing}
 use Rattle.stores.specs.Stores.{pick_most}
 use Rattle.objects.specs.Fits.{StoresFitIn}
 use Rattle.objects.specs.Found.{object_of, found_of, ends_of}
@@ -24,11 +23,11 @@ use Rattle.objects.proofs.Places.{AreaWords, area_words_lem, found_at, found_not
 -- ---- the last step
 
 module _ (n a at b u : ℕ) where
-  pub ends_at : slots_of n + data_of n < u → At (record { area = a; at = at; bit = b; slots = slots_of n; data_words = data_of n }) ≡ ends_of n a at b u
+  pub ends_at : slots_of n + data_of n < u → Some (record { area = a; at = at; bit = b; slots = slots_of n; data_words = data_of n }) ≡ ends_of n a at b u
   unfolding ends_of
   ends_at k = sym (pick_true (leb (suc (slots_of n + data_of n)) u) _ _ (le-leb (suc (slots_of n + data_of n)) u (omega arith)))
 
-  pub ends_out : u ≤ slots_of n + data_of n → Nothing ≡ ends_of n a at b u
+  pub ends_out : u ≤ slots_of n + data_of n → None ≡ ends_of n a at b u
   unfolding ends_of
   ends_out k = sym (pick_false (leb (suc (slots_of n + data_of n)) u) _ _ (lt-leb (suc (slots_of n + data_of n)) u (omega arith)))
 
@@ -68,10 +67,10 @@ module _ (w b : List ℕ) (m : Memory) (h a o : ℕ) (x : Area) (d : HandleRead 
   in_area : AreaWords (state_of w b) m (area_of h)
   in_area = area_words_lem (state_of w b) m d.ready.good d.fitting (area_of h) (area_lt h)
 
-  pub other_generation : (g : ℕ) → g ≡ generation_of h → (g ≡ x.generation → ⊥) → Nothing ≡ found_of (state_of w b) m h
+  pub other_generation : (g : ℕ) → g ≡ generation_of h → (g ≡ x.generation → ⊥) → None ≡ found_of (state_of w b) m h
   other_generation g e n = found_nothing (state_of w b) m h (λ l. n (e ∙ l.generation ∙ sym (ap (λ (y : Area). y.generation) here)))
 
-  pub past_used : x.used ≤ o → Nothing ≡ found_of (state_of w b) m h
+  pub past_used : x.used ≤ o → None ≡ found_of (state_of w b) m h
   past_used k = found_nothing (state_of w b) m h (λ l. omega (arith, l.used, k, d.offset_is, ap (λ (y : Area). y.used) here))
 
   module _ (k : o < x.used) where
@@ -95,7 +94,7 @@ module _ (w b : List ℕ) (m : Memory) (h a o : ℕ) (x : Area) (d : HandleRead 
       pub bit_in_lem : i / 64 < length m.map
       bit_in_lem = omega (arith, index_is, in_area.bits, in_area.used, d.offset_is, k, ap (λ (y : Area). y.used) here)
 
-      pub no_bit : bit_at m.map i ≡ 0 → Nothing ≡ found_of (state_of w b) m h
+      pub no_bit : bit_at m.map i ≡ 0 → None ≡ found_of (state_of w b) m h
       no_bit z = found_nothing (state_of w b) m h (λ l. omega (arith, l.bit, z, ap (bit_at m.map) index_is))
 
       pub ends : generation_of h ≡ x.generation → (bit_at m.map i ≡ 0 → ⊥)

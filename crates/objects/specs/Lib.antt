@@ -1,7 +1,6 @@
 -- The definitions that the contracts cite, and laws of single chains of refusals.
 pub mod Fits
 pub mod Found
-pub mod Checked
 pub mod Indexed
 pub mod Resolving
 pub mod Chains

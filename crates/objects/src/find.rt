@@ -4,7 +4,7 @@ ghost use Rattle.objects.specs.Found.{ends_of};
 ghost use Rattle.objects.specs.Resolving.{Fitting, Finds, Numbers};
 
 use layout::handle;
-use tables::{Bytes, Words};
+use tables::{Buffers, Bytes, Words};
 
 // An object that a handle resolves to: its area, the place of its header in its store and its bit in the maps, its
 // slots and how many data words it has.
@@ -17,23 +17,17 @@ pub struct Resolved {
     pub data_words: u64,
 }
 
-#[derive(Clone, Copy)]
-pub enum Found {
-    At(Resolved),
-    Nothing,
-}
-
 // The object that a header heads, where as many used words are left from it on as it takes. So that the offset need not
 // be kept, the caller tells what is left.
-fn whole(header: u64, area: u64, at: usize, bit: usize, left: u64) -> Found
+fn whole(header: u64, area: u64, at: usize, bit: usize, left: u64) -> Option<Resolved>
     ensures { result ≡ ends_of header area at bit left }
 {
     let slots = handle::slots(header);
     let data_words = handle::data_words(header);
     if left <= slots + data_words {
-        return Found::Nothing;
+        return None;
     }
-    Found::At(Resolved {
+    Some(Resolved {
         area,
         at,
         bit,
@@ -44,35 +38,29 @@ fn whole(header: u64, area: u64, at: usize, bit: usize, left: u64) -> Found
 
 // The object that a handle leads to. A scope that is not open has no used words. So that few registers have to be saved, what depends on the
 // store is chosen first, and the used words are read after the generation is tested.
-pub fn lookup<'a>(
-    words: &Words,
-    bytes: &Bytes,
-    permanent: &'a [u64],
-    scratch: &'a [u64],
-    map: &[u64],
-    handle: u64,
-) -> Found
-    requires { Fitting words.now bytes.now permanent.now scratch.now map.now }
-    ensures found { Finds result words.now bytes.now permanent.now scratch.now map.now handle }
-    ensures number { Numbers result words.now bytes.now permanent.now scratch.now map.now handle }
+pub fn lookup(words: &Words, bytes: &Bytes, buffers: &Buffers<'_>, handle: u64) -> Option<Resolved>
+    requires { Fitting words.now bytes.now buffers.now }
+    ensures found { Finds result words.now bytes.now buffers.now handle }
+    ensures number { Numbers result words.now bytes.now buffers.now handle }
 {
     let area = handle::area(handle);
     let offset = handle::offset(handle);
-    let store = stores::store_of(permanent, scratch, area);
-    let first = stores::first_bit(permanent.len(), area);
+    let store = stores::store_of(buffers.permanent, buffers.scratch, area);
+    let first = stores::first_bit(buffers.permanent.len(), area);
     let x = held_areas::area_at(words, area as usize);
     if handle::generation(handle) != x.generation {
-        return Found::Nothing;
+        return None;
     }
     let used = held_areas::area_at(words, area as usize).used;
     if used <= offset {
-        return Found::Nothing;
+        return None;
     }
     let left = used - offset;
     let at = (x.start + offset) as usize;
     let bit = first + at;
-    if bitmap::bit(map, bit) == 0 {
-        return Found::Nothing;
+    let mark = bitmap::bit(buffers.map, bit);
+    if mark == 0 {
+        return None;
     }
     let header = store[at];
     whole(header, area, at, bit, left)

@@ -5,6 +5,6 @@ mod find; // find.rt: the object that a handle leads to
 mod check; // check.rt: refusals 13 and 5 of a call on an object
 mod index; // index.rt: refusal 14 of a call on a word of an object
 
-pub use check::{Checked, check_object};
-pub use find::{Found, Resolved, lookup};
-pub use index::{Indexed, Part, WordPlace, check_index};
+pub use check::check_object;
+pub use find::{Resolved, lookup};
+pub use index::{Part, WordPlace, check_index};

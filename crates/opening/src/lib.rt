@@ -21,13 +21,12 @@ fn opened_area(x: Area, parent: u64, depth: Depth) -> Area
     ensures { result ≡ opened x parent depth.0 }
 {
     Area {
-        start: x.start,
-        size: x.size,
         used: 0,
         generation: x.generation + 1,
         count: 1,
-        parent: parent,
+        parent,
         depth: depth.0 as u64 + 1,
+        ..x
     }
 }
 
@@ -45,7 +44,8 @@ fn put_display(bytes: &mut Bytes, q: usize, p: usize, depth: Depth)
 // Area q goes on top of a stack, and beside it the innermost scope as of that entry. The length is written
 // before the entry: the compiler then sees that the kind is as it was read.
 pub fn push(words: &mut Words, bytes: &mut Bytes, t: usize, q: u8, inner: u8)
-    requires { Shaped words.old bytes.old × (t < 16) × ((thread_at (state_of words.old bytes.old) t).len < 32) }
+    requires { Shaped words.old bytes.old × (t < 16)
+        × ((thread_at (state_of words.old bytes.old) t).len < 32) }
     ensures { Holds words.new bytes.new (pushed_state (state_of words.old bytes.old) t q inner) }
 {
     let h = held_threads::thread_at(words, t);
@@ -60,7 +60,8 @@ pub fn push(words: &mut Words, bytes: &mut Bytes, t: usize, q: u8, inner: u8)
 // Scope q is open and gets one entry more; its generation. The stack is written first, here and below: its length
 // is then the one that was read for the checks.
 fn reenter(words: &mut Words, bytes: &mut Bytes, t: usize, q: usize) -> u64
-    requires { Shaped words.old bytes.old × Enterable (state_of words.old bytes.old) t q × (2 ≤ q) × (0 < (area_at (state_of words.old bytes.old) q).count) }
+    requires { Shaped words.old bytes.old × Enterable (state_of words.old bytes.old) t q
+        × (2 ≤ q) × (0 < (area_at (state_of words.old bytes.old) q).count) }
     ensures value { result ≡ enter_value (state_of words.old bytes.old) q }
     ensures state { Holds words.new bytes.new (enter_state (state_of words.old bytes.old) t q) }
 {
@@ -72,7 +73,8 @@ fn reenter(words: &mut Words, bytes: &mut Bytes, t: usize, q: usize) -> u64
 
 // Scope q opens below p, the innermost scope; its generation.
 fn open(words: &mut Words, bytes: &mut Bytes, t: usize, q: usize, p: usize) -> u64
-    requires scope { Shaped words.old bytes.old × Enterable (state_of words.old bytes.old) t q × (2 ≤ q) × ((area_at (state_of words.old bytes.old) q).count ≤ 0) }
+    requires scope { Shaped words.old bytes.old × Enterable (state_of words.old bytes.old) t q
+        × (2 ≤ q) × ((area_at (state_of words.old bytes.old) q).count ≤ 0) }
     requires parent { p ≡ innermost (stack_at (state_of words.old bytes.old) t) }
     ensures value { result ≡ enter_value (state_of words.old bytes.old) q }
     ensures state { Holds words.new bytes.new (enter_state (state_of words.old bytes.old) t q) }

@@ -11,29 +11,29 @@ use Rattle.setup.specs.First.{Begun, prepared}
 use Rattle.tables.specs.Contract.{memory_of, Ready}
 use Rattle.line_answers.specs.Output.{line_answer, after_line, first_world}
 use Rattle.line_answers.specs.Answered.{Core, core, Represents, Ended, length_line}
-use Rattle.lines.specs.Lines.{Buffered}
+use Rattle.lines.specs.declared.line.Line.{Line}
+use Rattle.lines.specs.Lines.{Buffered, emptied}
 use Rattle.lines.specs.LineLaws.{buffered_none}
-use Rattle.reader.specs.Feeding.{finished, finished_none, finished_rest, fed_none, fed_end, fed_other}
+use Rattle.reader.specs.Feeding.{finished_none, finished_rest, fed_none, fed_end, fed_other}
 use Rattle.reader.specs.Held.{Held, held, LeavesFed, Feeds, Finishes, feeds_append}
 
 -- ---- a byte
 
-module _ (k n : Core) (line : List ℕ) (len : ℕ) (out : List ℕ) (at : ℕ) (written : List ℕ) (d : Ended k n line len out at written) where
-  leaves_ended : (sized : length line ≡ 40) (w : World) (l : List ℕ) → Represents k w → Buffered line len l
-      → LeavesFed (held k line len out at) (held n line 0 written (at + 19)) (record { output = line_answer w l; world = after_line w l; line = [] })
+module _ (k n : Core) (line : Line) (out : List ℕ) (at : ℕ) (written : List ℕ) (d : Ended k n line out at written) where
+  leaves_ended : {next : Line} → Buffered next [] → (w : World) (l : List ℕ) → Represents k w → Buffered line l
+      → LeavesFed (held k line out at) (held n next written (at + 19)) (record { output = line_answer w l; world = after_line w l; line = [] })
   leaves_ended z w l s h = record {
     represents = d.steps w l s h;
-    buffered = buffered_none line z;
+    buffered = z;
     at_is = ap (λ (j : ℕ). at + j) (sym (length_line w l));
     output_is = d.output_is w l s h;
   }
 
-  -- a line feed
-  pub feeds_end : (b : ℕ) → b ≡ 10 → length line ≡ 40 → length written ≡ length out
-      → Feeds (held k line len out at) (held n line 0 written (at + 19)) (b ∷ [])
-  feeds_end b e z q = record {
+  -- a line feed, after which the next line begins
+  pub feeds_end : {next : Line} → Buffered next [] → (b : ℕ) → b ≡ 10 → length written ≡ length out
+      → Feeds (held k line out at) (held n next written (at + 19)) (b ∷ [])
+  feeds_end z b e q = record {
     ready = d.ready;
-    sized = z;
     long = q;
     room = omega arith;
     leaves = λ w l s h.
@@ -41,12 +41,11 @@ module _ (k n : Core) (line : List ℕ) (len : ℕ) (out : List ℕ) (at : ℕ) 
   }
 
 -- any other byte
-pub feeds_other : (k : Core) (line : List ℕ) (len : ℕ) (out : List ℕ) (at b : ℕ) (line₁ : List ℕ) (len₁ : ℕ) → (b ≡ 10 → ⊥)
-    → Ready k.words k.bytes → length line₁ ≡ 40 → ((l : List ℕ) → Buffered line len l → Buffered line₁ len₁ (l ++ (b ∷ [])))
-    → Feeds (held k line len out at) (held k line₁ len₁ out at) (b ∷ [])
-feeds_other k line len out at b line₁ len₁ n y z g = record {
+pub feeds_other : (k : Core) (line : Line) (out : List ℕ) (at b : ℕ) (line₁ : Line) → (b ≡ 10 → ⊥)
+    → Ready k.words k.bytes → ((l : List ℕ) → Buffered line l → Buffered line₁ (l ++ (b ∷ [])))
+    → Feeds (held k line out at) (held k line₁ out at) (b ∷ [])
+feeds_other k line out at b line₁ n y g = record {
   ready = y;
-  sized = z;
   long = refl;
   room = omega arith;
   leaves = λ w l s h.
@@ -61,29 +60,21 @@ feeds_more e x y input i h a b = rw (add-one, take-suc input i 0 h) (feeds_appen
 
 -- ---- the end of input
 
-pub finishes_none : (k : Core) (line : List ℕ) (out : List ℕ) → Ready k.words k.bytes → Finishes (held k line 0 out 0) (held k line 0 out 0)
-finishes_none k line out y = record {
+pub finishes_none : (k : Core) (line : Line) (out : List ℕ) → Ready k.words k.bytes → ((l : List ℕ) → Buffered line l → l ≡ [])
+    → Finishes (held k line out 0) (held k (emptied line) out 0)
+finishes_none k line out y n = record {
   ready = y;
   room = omega arith;
-  leaves = λ w l s h. subst (λ (x : List ℕ). LeavesFed (held k line 0 out 0) (held k line 0 out 0) (finished w x)) (sym (empty l h)) (leaves_empty w s (rw (empty l h) at h));
+  leaves = λ w l s h.
+      rw (n l h, finished_none w) (record { represents = s; buffered = buffered_none line h.sized; at_is = refl; output_is = refl });
 }
-  where
-    empty : (l : List ℕ) → Buffered line 0 l → l ≡ []
-    empty [] h = refl
-    empty (c ∷ l) h = absurd (omega (arith, h.count))
 
-    leaves_empty : (w : World) → Represents k w → Buffered line 0 [] → LeavesFed (held k line 0 out 0) (held k line 0 out 0) (finished w [])
-    leaves_empty w s h = rw (finished_none w) (record { represents = s; buffered = h; at_is = refl; output_is = refl })
-
-empty_count : (line : List ℕ) (len : ℕ) → Buffered line len [] → len ≡ 0
-empty_count line len h = omega (arith, h.count)
-
-pub finishes_rest : (k n : Core) (line : List ℕ) (len : ℕ) (out written : List ℕ) → Ended k n line len out 0 written → (len ≡ 0 → ⊥) → length line ≡ 40
-    → Finishes (held k line len out 0) (held n line 0 written 19)
-finishes_rest k n line len out written d q z = record {
+pub finishes_rest : (k n : Core) (line : Line) (out written : List ℕ) → Ended k n line out 0 written → ((l : List ℕ) → Buffered line l → l ≡ [] → ⊥)
+    → Finishes (held k line out 0) (held n (emptied line) written 19)
+finishes_rest k n line out written d q = record {
   ready = d.ready;
   room = omega arith;
-  leaves = λ w l s h. rw (finished_rest w l (λ e. q (empty_count line len (subst (Buffered line len) e h)))) (leaves_ended k n line len out 0 written d z w l s h);
+  leaves = λ w l s h. rw (finished_rest w l (q l h)) (leaves_ended k n line out 0 written d (buffered_none line h.sized) w l s h);
 }
 
 -- ---- the beginning

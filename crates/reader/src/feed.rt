@@ -2,20 +2,15 @@
 // the next chunk.
 ghost use Rattle.std.specs.Prelude.{◌≡◌, [], ◌∷◌, ◌+◌, ◌*◌, ◌≤◌, length};
 ghost use Rattle.tables.specs.Contract.{Ready};
+ghost use Rattle.lines.specs.Lines.{emptied};
 ghost use Rattle.line_answers.specs.Answered.{core};
 ghost use Rattle.reader.specs.Held.{Feeds, Finishes, held};
 
-use lines::line::Text;
+use lines::line::Line;
 use tables::{Bytes, Words};
 
-// How many bytes the line so far has (41 for every longer line), and how many were written.
-#[derive(Clone, Copy)]
-pub struct Fed {
-    pub len: usize,
-    pub written: usize,
-}
-
-// One byte: a line feed ends the line so far; any other byte belongs to it.
+// One byte: a line feed ends the line so far, and its answer is written from place at on; any other
+// byte belongs to it. The place of the next answer.
 fn feed_byte(
     words: &mut Words,
     bytes: &mut Bytes,
@@ -23,34 +18,30 @@ fn feed_byte(
     scratch: &mut [u64],
     map: &mut [u64],
     written: &mut [u64],
-    line: &mut Text,
-    len: usize,
+    line: &mut Line,
     b: u8,
     output: &mut [u8],
     at: usize,
-) -> Fed
-    requires { (Ready words.old bytes.old) × (length line.old ≡ 40) × (at + 19 ≤ length output.old) }
+) -> usize
+    requires { (Ready words.old bytes.old) × (at + 19 ≤ length output.old) }
     ensures { Feeds
-        (held (core words.old bytes.old permanent.old scratch.old map.old written.old) line.old len output.old at)
-        (held (core words.new bytes.new permanent.new scratch.new map.new written.new) line.new result.len output.new result.written)
+        (held (core words.old bytes.old permanent.old scratch.old map.old written.old) line.old output.old at)
+        (held (core words.new bytes.new permanent.new scratch.new map.new written.new) line.new output.new result)
         (b ∷ []) }
 {
     if b == b'\n' {
         line_answers::end_line(
-            words, bytes, permanent, scratch, map, written, line, len, output, at,
+            words, bytes, permanent, scratch, map, written, line, output, at,
         );
-        return Fed {
-            len: 0,
-            written: at + 19,
-        };
+        line.clear();
+        return at + 19;
     }
-    Fed {
-        len: lines::line::add_byte(line, len, b),
-        written: at,
-    }
+    line.add_byte(b);
+    at
 }
 
-// A chunk of the input, one byte a turn. The output has room for an answer to each byte of it.
+// A chunk of the input, one byte a turn. The output has room for an answer to each byte of it. How many
+// bytes were written.
 pub fn feed(
     words: &mut Words,
     bytes: &mut Bytes,
@@ -58,32 +49,23 @@ pub fn feed(
     scratch: &mut [u64],
     map: &mut [u64],
     written: &mut [u64],
-    line: &mut Text,
-    len: usize,
+    line: &mut Line,
     input: &[u8],
     output: &mut [u8],
-) -> Fed
-    requires { (Ready words.old bytes.old) × (length line.old ≡ 40) × (19 * length input.now ≤ length output.old) }
+) -> usize
+    requires { (Ready words.old bytes.old) × (19 * length input.now ≤ length output.old) }
     ensures { Feeds
-        (held (core words.old bytes.old permanent.old scratch.old map.old written.old) line.old len output.old 0)
-        (held (core words.new bytes.new permanent.new scratch.new map.new written.new) line.new result.len output.new result.written)
+        (held (core words.old bytes.old permanent.old scratch.old map.old written.old) line.old output.old 0)
+        (held (core words.new bytes.new permanent.new scratch.new map.new written.new) line.new output.new result)
         input.now }
 {
-    let mut n = len;
     let mut at = 0;
-    let mut i = 0;
-    while i < input.len() {
-        let fed = feed_byte(
-            words, bytes, permanent, scratch, map, written, line, n, input[i], output, at,
+    for &b in input {
+        at = feed_byte(
+            words, bytes, permanent, scratch, map, written, line, b, output, at,
         );
-        n = fed.len;
-        at = fed.written;
-        i += 1;
     }
-    Fed {
-        len: n,
-        written: at,
-    }
+    at
 }
 
 // The end of the input: a line so far that is not empty is a line. How many bytes were written.
@@ -94,20 +76,19 @@ pub fn finish(
     scratch: &mut [u64],
     map: &mut [u64],
     written: &mut [u64],
-    line: &Text,
-    len: usize,
+    line: &Line,
     output: &mut [u8],
 ) -> usize
-    requires { (Ready words.old bytes.old) × (length line.now ≡ 40) × (19 ≤ length output.old) }
+    requires { (Ready words.old bytes.old) × (19 ≤ length output.old) }
     ensures { Finishes
-        (held (core words.old bytes.old permanent.old scratch.old map.old written.old) line.now len output.old 0)
-        (held (core words.new bytes.new permanent.new scratch.new map.new written.new) line.now 0 output.new result) }
+        (held (core words.old bytes.old permanent.old scratch.old map.old written.old) line.now output.old 0)
+        (held (core words.new bytes.new permanent.new scratch.new map.new written.new) (emptied line.now) output.new result) }
 {
-    if len == 0 {
+    if line.is_empty() {
         return 0;
     }
     line_answers::end_line(
-        words, bytes, permanent, scratch, map, written, line, len, output, 0,
+        words, bytes, permanent, scratch, map, written, line, output, 0,
     );
     19
 }

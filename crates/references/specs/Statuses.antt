@@ -1,6 +1,6 @@
 -- One law for each way that the checks of ops 07 and 08 end.
 -- Assumes nothing.
-use Rattle.std.specs.Prelude.{ℕ, ◌≤◌, ◌<◌, true, false, not, ◌||◌, List, ◌≡◌, ◌≢◌, eqb}
+use Rattle.std.specs.Prelude.{ℕ, ◌≤◌, ◌<◌, true, false, not, ◌||◌, List, ◌≡◌, refl, ◌≢◌, eqb, Some, None}
 use Rattle.std.proofs.Common.{true≢false, ◌∙◌}
 use Rattle.std.proofs.Math.Path.{sym, ap}
 use borrow.Author.Tests.{eqb-true, le-leb, lt-leb, lt-ltb, le-ltb, eq-eqb, ne_eqb}
@@ -9,13 +9,12 @@ use Rattle.layout.specs.Handle.{null, area_of}
 use Rattle.layout.specs.Display.{row_holds}
 use Rattle.rights.specs.declared.Right.TheVariants.{Refer}
 use Rattle.model.specs.declared.Area.{Area}
-use Rattle.model.specs.State.{State, Memory, area_at, display_holds}
-use Rattle.model.specs.Checks.{has_right, is_reference}
+use Rattle.model.specs.State.{State, Memory, area_at, display_holds, with_written}
+use Rattle.model.specs.Checks.{has_right, live, is_object, is_reference, use_rest}
 use Rattle.model.specs.References.{may_refer, word_after, slot_rest, reference_rest, store_rest, load_rest}
 use Rattle.tables.specs.Decode as decode
 use Rattle.tables.proofs.Laws.{area_read, row_read}
 use Rattle.objects.specs.declared.find.Resolved.{Resolved}
-use Rattle.objects.specs.declared.find.Found.TheVariants.{At, Nothing}
 use Rattle.objects.specs.Found.{found_of}
 use Rattle.objects.proofs.Places.{at_live, nothing_live}
 use Rattle.objects.specs.Chains.{Chain, chain_none, chain_more, chain_passed}
@@ -36,11 +35,11 @@ module _ (s : State) (m : Memory) (t x : ℕ) where
   reference_null e = rw (eq-eqb x 0 e)
 
   module _ (n : x ≢ 0) where
-    pub reference_nothing : Nothing ≡ found_of s m x → 15 ≡ reference_rest s m t x 0
+    pub reference_nothing : None ≡ found_of s m x → 15 ≡ reference_rest s m t x 0
     unfolding reference_rest is_reference refuse
     reference_nothing e = rw (ne_eqb x 0 n, nothing_live s m x e)
 
-    module _ (o : Resolved) (e : At o ≡ found_of s m x) where
+    module _ (o : Resolved) (e : Some o ≡ found_of s m x) where
       pub reference_no_right : has_right s t Refer o.area ≡ false → 5 ≡ reference_rest s m t x 0
       unfolding reference_rest is_reference refuse
       reference_no_right r = rw (ne_eqb x 0 n, (at_live s m x o e).0, ← found_area s m x o e, r)
@@ -116,3 +115,14 @@ module _ (s : State) (m : Memory) (t p q : ℕ) where
   pub load_slot : slot_rest s m t p q 0 ≡ 0 → {n x : ℕ} → x ≡ word_after s m p q → n ≡ reference_rest s m t x 0 → n ≡ load_rest s m t p q
   unfolding load_rest
   load_slot z f e = e ∙ ap (λ (x : ℕ). reference_rest s m t x 0) f ∙ sym ((index_chain Slots s m t p q).passes z _)
+
+-- ---- whatever the written map is, l, the refusals are the same
+
+module _ (s : State) (m : Memory) (l : List ℕ) (t r : ℕ) where
+  pub reference_any : (rest : ℕ) → reference_rest s (with_written m l) t r rest ≡ reference_rest s m t r rest
+  unfolding reference_rest is_reference live
+  reference_any rest = refl
+
+  pub store_any : (p q : ℕ) → store_rest s (with_written m l) t p q r ≡ store_rest s m t p q r
+  unfolding store_rest slot_rest use_rest reference_rest is_object is_reference live
+  store_any p q = refl

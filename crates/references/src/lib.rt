@@ -2,6 +2,7 @@
 #![tactic(auto)]
 
 ghost use Rattle.std.specs.Prelude.{◌≡◌, ◌<◌};
+ghost use Rattle.layout.specs.Answer.{answer_of};
 ghost use Rattle.model.specs.References.{may_refer, reference_rest, store_rest};
 ghost use Rattle.model.specs.Calls as calls;
 ghost use Rattle.tables.specs.Contract.{Answers, Ready, memory_of};
@@ -9,12 +10,12 @@ ghost use Rattle.objects.specs.declared.index.Part.TheVariants.{Slots};
 ghost use Rattle.objects.specs.Resolving.{Admissible, Refuses, Indexes};
 ghost use Rattle.tables.specs.Decode.{state_of};
 
-use layout::answer::Answer;
+use layout::answer::Refusal;
 use layout::display::Depth;
 use layout::handle;
-use objects::{Found, Indexed, Part};
+use objects::{Part, WordPlace};
 use rights::Right;
-use tables::{Bytes, Words};
+use tables::{Buffers, Bytes, Words};
 
 // The assignment rule, for the areas of an object and of a target: one look into the display of the
 // object's area (source 004, Algorithm 9).
@@ -34,61 +35,51 @@ fn may_refer(words: &Words, bytes: &Bytes, object: u64, target: u64) -> bool
 }
 
 // Refusals 15 and 5: a target or a loaded word. Null always passes.
-fn check_reference<'a>(
+fn check_reference(
     words: &Words,
     bytes: &Bytes,
-    permanent: &'a [u64],
-    scratch: &'a [u64],
-    map: &[u64],
+    buffers: &Buffers<'_>,
     t: u64,
     x: u64,
-) -> u64
-    requires { Admissible words.now bytes.now permanent.now scratch.now map.now t }
-    ensures { Refuses result words.now bytes.now permanent.now scratch.now map.now (λ s m. reference_rest s m t x 0) }
+) -> Result<(), Refusal>
+    requires { Admissible words.now bytes.now buffers.now t }
+    ensures { Refuses result words.now bytes.now buffers.now (λ s m. reference_rest s m t x 0) }
 {
     if x == 0 {
-        return 0;
+        return Ok(());
     }
-    let Found::At(o) = objects::lookup(words, bytes, permanent, scratch, map, x) else {
-        return 15;
+    let Some(o) = objects::lookup(words, bytes, buffers, x) else {
+        return Err(Refusal::Target);
     };
     if !callers::has_right(words, bytes, t as usize, Right::Refer, o.area) {
-        return 5;
+        return Err(Refusal::Right);
     }
-    0
+    Ok(())
 }
 
 // ---- op 07, store reference
 
 // Its refusals past 1 and 2. Null's area is the heap, so the assignment rule lets it pass.
-fn check_store<'a>(
+fn check_store(
     words: &Words,
     bytes: &Bytes,
-    permanent: &'a [u64],
-    scratch: &'a [u64],
-    map: &[u64],
+    buffers: &Buffers<'_>,
     t: u64,
     p: u64,
     q: u64,
     target: u64,
-) -> Indexed
-    requires { Admissible words.now bytes.now permanent.now scratch.now map.now t }
-    ensures { Indexes result words.now bytes.now permanent.now scratch.now map.now p Slots q (λ s m. store_rest s m t p q target) }
+) -> Result<WordPlace, Refusal>
+    requires { Admissible words.now bytes.now buffers.now t }
+    ensures { Indexes result words.now bytes.now buffers.now p Slots q (λ s m. store_rest s m t p q target) }
 {
-    match objects::check_index(words, bytes, permanent, scratch, map, t, p, Part::Slots, q) {
-        Indexed::Refused(n) => Indexed::Refused(n),
-        Indexed::At(w) => {
-            let refusal = check_reference(words, bytes, permanent, scratch, map, t, target);
-            let may = may_refer(words, bytes, w.area, handle::area(target));
-            if refusal != 0 {
-                return Indexed::Refused(refusal);
-            }
-            if !may {
-                return Indexed::Refused(16);
-            }
-            Indexed::At(w)
-        }
+    let w = objects::check_index(words, bytes, buffers, t, p, Part::Slots, q)?;
+    let checked = check_reference(words, bytes, buffers, t, target);
+    let may = may_refer(words, bytes, w.area, handle::area(target));
+    checked?;
+    if !may {
+        return Err(Refusal::Assignment);
     }
+    Ok(w)
 }
 
 // Op 07: object p, slot q, target; the value is 0.
@@ -103,66 +94,42 @@ pub fn store(
     p: u64,
     q: u64,
     target: u64,
-) -> Answer
+) -> Result<u64, Refusal>
     requires { Ready words.now bytes.now }
-    ensures { Answers result (calls.store t p q target)
+    ensures { Answers (answer_of result) (calls.store t p q target)
         words.now bytes.now (memory_of permanent.old scratch.old map.now written.now)
         words.now bytes.now (memory_of permanent.new scratch.new map.now written.now) }
 {
-    let refusal = callers::check_caller(words, bytes, permanent, scratch, map, written, t);
-    if refusal != 0 {
-        return Answer {
-            status: refusal,
-            value: 0,
-        };
-    }
-    match check_store(words, bytes, permanent, scratch, map, t, p, q, target) {
-        Indexed::Refused(status) => Answer { status, value: 0 },
-        Indexed::At(w) => {
-            stores::put_word(permanent, scratch, w.area, w.at, target);
-            Answer {
-                status: 0,
-                value: 0,
-            }
-        }
-    }
+    let buffers = Buffers {
+        permanent,
+        scratch,
+        map,
+        written,
+    };
+    callers::check_caller(words, bytes, &buffers, t)?;
+    let w = check_store(words, bytes, &buffers, t, p, q, target)?;
+    stores::put_word(permanent, scratch, w.area, w.at, target);
+    Ok(0) // none is named
 }
 
 // ---- op 08, load reference
 
 // Object p, slot q; the value is the stored word.
-pub fn load<'a>(
+pub fn load(
     words: &Words,
     bytes: &Bytes,
-    permanent: &'a [u64],
-    scratch: &'a [u64],
-    map: &[u64],
-    written: &[u64],
+    buffers: &Buffers<'_>,
     t: u64,
     p: u64,
     q: u64,
-) -> Answer
+) -> Result<u64, Refusal>
     requires { Ready words.now bytes.now }
-    ensures { Answers result (calls.load t p q)
-        words.now bytes.now (memory_of permanent.now scratch.now map.now written.now)
-        words.now bytes.now (memory_of permanent.now scratch.now map.now written.now) }
+    ensures { Answers (answer_of result) (calls.load t p q)
+        words.now bytes.now buffers.now words.now bytes.now buffers.now }
 {
-    let refusal = callers::check_caller(words, bytes, permanent, scratch, map, written, t);
-    if refusal != 0 {
-        return Answer {
-            status: refusal,
-            value: 0,
-        };
-    }
-    match objects::check_index(words, bytes, permanent, scratch, map, t, p, Part::Slots, q) {
-        Indexed::Refused(status) => Answer { status, value: 0 },
-        Indexed::At(w) => {
-            let x = stores::word_at(permanent, scratch, w.area, w.at);
-            let status = check_reference(words, bytes, permanent, scratch, map, t, x);
-            if status != 0 {
-                return Answer { status, value: 0 };
-            }
-            Answer { status, value: x }
-        }
-    }
+    callers::check_caller(words, bytes, buffers, t)?;
+    let w = objects::check_index(words, bytes, buffers, t, p, Part::Slots, q)?;
+    let x = stores::word_at(buffers.permanent, buffers.scratch, w.area, w.at);
+    check_reference(words, bytes, buffers, t, x)?;
+    Ok(x)
 }

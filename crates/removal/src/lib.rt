@@ -2,39 +2,34 @@
 #![tactic(auto)]
 
 ghost use Rattle.std.specs.Prelude.{◌≡◌};
+ghost use Rattle.layout.specs.Answer.{status_of, answer_of};
 ghost use Rattle.model.specs.Removal.{remove_rest, remove_state, remove_change};
 ghost use Rattle.model.specs.Calls as calls;
 ghost use Rattle.model.proofs.Accepted.{RemoveOk};
-ghost use Rattle.tables.specs.Contract.{Changes, Answers, Ready, memory_of};
+ghost use Rattle.tables.specs.Contract.{Changes, Answers, Ready};
 ghost use Rattle.tables.specs.Decode.{state_of, Holds};
 
-use layout::answer::Answer;
-use tables::{Bytes, Words};
+use layout::answer::Refusal;
+use tables::{Buffers, Bytes, Words};
 
-fn check_remove(words: &Words, bytes: &Bytes, t: u64, q: u64) -> u64
+fn check_remove(words: &Words, bytes: &Bytes, t: u64, q: u64) -> Result<(), Refusal>
     requires { Ready words.now bytes.now }
-    ensures { result ≡ remove_rest (state_of words.now bytes.now) t q }
+    ensures { status_of result ≡ remove_rest (state_of words.now bytes.now) t q }
 {
-    let refusal = callers::check_thread(words, bytes, t);
-    if refusal != 0 {
-        return refusal;
-    }
-    if q < 2 {
-        return 6;
-    }
-    if 64 <= q {
-        return 6;
+    callers::check_thread(words, bytes, t)?;
+    if !(2..64).contains(&q) {
+        return Err(Refusal::Area);
     }
     let x = held_areas::area_at(words, q as usize);
     let made = held_areas::is_made(x, q);
     let open = 0 < x.count;
     if !made {
-        return 6;
+        return Err(Refusal::Area);
     }
     if open {
-        return 20;
+        return Err(Refusal::Open);
     }
-    0
+    Ok(())
 }
 
 // Scope q has no words any more, and its blocks are free; its generation stays.
@@ -52,39 +47,27 @@ fn apply_remove(words: &mut Words, bytes: &Bytes, t: u64, q: usize)
 }
 
 // After refusal 1.
-pub fn remove_on(words: &mut Words, bytes: &Bytes, t: u64, q: u64) -> Answer
+pub fn remove_on(words: &mut Words, bytes: &Bytes, t: u64, q: u64) -> Result<u64, Refusal>
     requires { Ready words.old bytes.now }
-    ensures { Changes result (remove_change (state_of words.old bytes.now) t q)
+    ensures { Changes (answer_of result) (remove_change (state_of words.old bytes.now) t q)
         words.old bytes.now words.new bytes.now }
 {
-    let status = check_remove(words, bytes, t, q);
-    if status == 0 {
-        apply_remove(words, bytes, t, q as usize);
-    }
-    Answer { status, value: 0 }
+    check_remove(words, bytes, t, q)?;
+    apply_remove(words, bytes, t, q as usize);
+    Ok(0)
 }
 
 pub fn remove(
     words: &mut Words,
     bytes: &Bytes,
-    permanent: &[u64],
-    scratch: &[u64],
-    map: &[u64],
-    written: &[u64],
+    buffers: &Buffers<'_>,
     t: u64,
     q: u64,
-) -> Answer
+) -> Result<u64, Refusal>
     requires { Ready words.old bytes.now }
-    ensures { Answers result (calls.remove t q)
-        words.old bytes.now (memory_of permanent.now scratch.now map.now written.now)
-        words.new bytes.now (memory_of permanent.now scratch.now map.now written.now) }
+    ensures { Answers (answer_of result) (calls.remove t q)
+        words.old bytes.now buffers.now words.new bytes.now buffers.now }
 {
-    let fit = callers::lengths_fit(words, bytes, permanent, scratch, map, written);
-    if !fit {
-        return Answer {
-            status: 1,
-            value: 0,
-        };
-    }
+    callers::check_lengths(words, bytes, buffers)?;
     remove_on(words, bytes, t, q)
 }

@@ -1,3 +1,2 @@
--- How much was read and is written, and what that takes.
-pub mod Counts
+-- What a read and a write take.
 pub mod Steps

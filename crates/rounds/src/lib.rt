@@ -7,25 +7,23 @@
 // many steps as `specs/Steps.antt` says.
 //
 // What is not proved, and has to be read: the bodies of the functions that call the system,
-// `read_chunk` and `write_answers` with `tell_unwritten`, beyond their numbers of bytes and steps,
-// since no contract says which bytes `read` gave and `write_all` took; and that no other function uses
-// the `Streams` that it is given but to hand them to `write_answers`, or changes `steps`
-// (docs/DECISIONS.md, 51), but `refuses_arguments`, which is called before anything is read. None but
-// `read_chunk` can change the input, by its type.
+// `read_chunk` and `write_answers` with `console::tell_unwritten`, beyond their numbers of bytes and
+// steps, since no contract says which bytes `read` gave and `write_all` took; and that no other function
+// uses the `Streams` that it is given but to hand them to `write_answers`, or changes `steps`
+// (docs/DECISIONS.md, 51). None but `read_chunk` can change the input, by its type.
 #![tactic(auto)]
 
-ghost use Rattle.std.specs.Prelude.{◌≡◌, ◌*◌, ◌≤◌, ◌<◌, length, take};
+ghost use Rattle.std.specs.Prelude.{◌*◌, ◌≤◌, ◌<◌, length};
 ghost use Rattle.tables.specs.Contract.{Ready};
-ghost use Rattle.rounds.specs.Counts.{IsPrefixLen};
+ghost use Rattle.console.specs.Counts.{IsPrefixLen};
 ghost use Rattle.rounds.specs.Steps.{Read, Wrote};
+ghost use Rattle.lines.specs.Lines.{emptied};
 ghost use Rattle.line_answers.specs.Answered.{core};
 ghost use Rattle.reader.specs.Held.{Feeds, Finishes, held};
 
-use lines::line::Text;
-use reader::feed::Fed;
-use std::env::FillError;
-use std::io::{Error, ErrorKind, Read};
-use std::rt::{Env, Stderr, Stdin, Stdout};
+use lines::line::Line;
+use std::io::Read;
+use std::rt::{Stderr, Stdin, Stdout};
 use tables::{Bytes, Words};
 
 // Room for the answers to a chunk. No other buffer has this type, here or in `frames`, so what is
@@ -52,18 +50,6 @@ impl Streams {
     }
 }
 
-// Whether the program was given arguments, which it refuses on standard error. The first of those that
-// the system counts is its own name.
-pub fn refuses_arguments(rt: HostRuntime) -> bool {
-    if let Err(FillError::NotPresent) = rt.arg(1, &mut []) {
-        return false;
-    }
-    let _ = rt.stderr().eprintln(
-        "frames: it takes no arguments; frames are read from standard input (README.md, Frames)",
-    );
-    true
-}
-
 // One read: how many bytes it put at the start of the input. It takes a step for each and one more.
 // If it fails, standard error says so, and one step is left, for the write of no answers.
 pub fn read_chunk(mut streams: Streams, input: &mut [u8], steps: &mut usize) -> usize
@@ -81,30 +67,27 @@ pub fn read_chunk(mut streams: Streams, input: &mut [u8], steps: &mut usize) -> 
     n
 }
 
-// Tells that the answers cannot be written. Where their reader has closed the pipe there is nobody to
-// tell.
-fn tell_unwritten(stderr: Stderr, error: Error) {
-    if error.kind() != ErrorKind::BrokenPipe {
-        let _ = stderr.eprintln("frames: the answers cannot be written");
-    }
-}
-
-// Writes the first n bytes of the output. It takes a step for each and one more. If not all are
-// written, standard error says so, and no step is left.
+// Writes the first n bytes of the output, which is not passed as those bytes alone, so that its type
+// says that they are the start of it. It takes a step for each and one more. If not all are written,
+// standard error says so, and no step is left.
 fn write_answers(streams: Streams, output: &Output, n: usize, steps: &mut usize)
     requires { (IsPrefixLen n output.now) × (n < steps.old) }
     ensures { Wrote steps.old steps.new n }
 {
     let all: &[u8] = output;
     if let Err(error) = streams.stdout.write_all(&all[..n]) {
-        tell_unwritten(streams.stderr, error);
+        console::tell_unwritten(
+            streams.stderr,
+            error,
+            "frames: the answers cannot be written",
+        );
         *steps = 0;
         return;
     }
     *steps -= n + 1;
 }
 
-// Answers the lines that end in the first n bytes of the input, and writes the answers.
+// Answers the lines that end in a chunk of the input, and writes the answers. How many bytes they are.
 pub fn answer_chunk(
     streams: Streams,
     words: &mut Words,
@@ -113,35 +96,24 @@ pub fn answer_chunk(
     scratch: &mut [u64],
     map: &mut [u64],
     written: &mut [u64],
-    line: &mut Text,
-    len: usize,
+    line: &mut Line,
     input: &[u8],
-    n: usize,
     output: &mut Output,
     steps: &mut usize,
-) -> Fed
-    requires lent { (Ready words.old bytes.old) × (length line.old ≡ 40) × (19 * length input.now ≤ length output.old) }
-    requires counted { (IsPrefixLen n input.now) × (19 * n < steps.old) }
+) -> usize
+    requires lent { (Ready words.old bytes.old) × (19 * length input.now ≤ length output.old) }
+    requires counted { 19 * length input.now < steps.old }
     ensures fed { Feeds
-        (held (core words.old bytes.old permanent.old scratch.old map.old written.old) line.old len output.old 0)
-        (held (core words.new bytes.new permanent.new scratch.new map.new written.new) line.new result.len output.new result.written)
-        (take n input.now) }
-    ensures wrote { Wrote steps.old steps.new result.written }
+        (held (core words.old bytes.old permanent.old scratch.old map.old written.old) line.old output.old 0)
+        (held (core words.new bytes.new permanent.new scratch.new map.new written.new) line.new output.new result)
+        input.now }
+    ensures wrote { Wrote steps.old steps.new result }
 {
-    let fed = reader::feed::feed(
-        words,
-        bytes,
-        permanent,
-        scratch,
-        map,
-        written,
-        line,
-        len,
-        &input[..n],
-        output,
+    let answered = reader::feed::feed(
+        words, bytes, permanent, scratch, map, written, line, input, output,
     );
-    write_answers(streams, output, fed.written, steps);
-    fed
+    write_answers(streams, output, answered, steps);
+    answered
 }
 
 // Answers what is left at the end of the input. How many bytes were written.
@@ -153,20 +125,17 @@ pub fn answer_rest(
     scratch: &mut [u64],
     map: &mut [u64],
     written: &mut [u64],
-    line: &Text,
-    len: usize,
+    line: &Line,
     output: &mut Output,
     steps: &mut usize,
 ) -> usize
-    requires { (Ready words.old bytes.old) × (length line.now ≡ 40) × (19 ≤ length output.old) × (19 < steps.old) }
+    requires { (Ready words.old bytes.old) × (19 ≤ length output.old) × (19 < steps.old) }
     ensures ended { Finishes
-        (held (core words.old bytes.old permanent.old scratch.old map.old written.old) line.now len output.old 0)
-        (held (core words.new bytes.new permanent.new scratch.new map.new written.new) line.now 0 output.new result) }
+        (held (core words.old bytes.old permanent.old scratch.old map.old written.old) line.now output.old 0)
+        (held (core words.new bytes.new permanent.new scratch.new map.new written.new) (emptied line.now) output.new result) }
     ensures wrote { Wrote steps.old steps.new result }
 {
-    let sent = reader::feed::finish(
-        words, bytes, permanent, scratch, map, written, line, len, output,
-    );
+    let sent = reader::feed::finish(words, bytes, permanent, scratch, map, written, line, output);
     write_answers(streams, output, sent, steps);
     sent
 }

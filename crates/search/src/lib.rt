@@ -1,15 +1,16 @@
 // The lowest run of clear bits in a map. Each function asks that its bits lie in the map.
 #![tactic(auto)]
 
-ghost use Rattle.std.specs.Prelude.{◌≡◌, suc, ◌+◌, ◌-◌, ◌*◌, ◌/◌, ◌%◌, ◌^◌, ◌<◌, ◌≤◌, length};
+ghost use Rattle.std.specs.Prelude.{◌≡◌, suc, ◌+◌, ◌-◌, ◌*◌, ◌/◌, ◌%◌, ◌^◌, ◌<◌, ◌≤◌, MatchOption, length};
 ghost use Rattle.std.specs.Int.Count.{count_leading_zeros};
 ghost use Rattle.runs.specs.LowestRun.{lowest_run, is_clear};
 ghost use Rattle.search.specs.ClearDown.{digits_down};
 
-// Where a run starts, and at how many bits the search has looked: a host sees nothing of it, and it costs nothing.
+// Where a run starts, if there is one, and at how many bits the search has looked: a host sees nothing of that, and it
+// costs nothing.
 #[derive(Clone, Copy)]
 pub struct Found {
-    pub start: usize,
+    pub start: Option<usize>,
     pub looks: usize,
 }
 
@@ -29,13 +30,15 @@ fn clear_above(digits: u64, w: usize) -> usize
     u64::leading_zeros(digits) as usize - (63 - w % 64)
 }
 
-// The lowest run of n adjacent clear bits among the first `bits`; it starts at `bits` where there is none. The jumping
-// search of source 000, Figure 6: a run is looked at from its last bit down, and a set bit makes the next run start
-// behind it. It jumps while the last bit is set; then it goes down a map word at a time. It looks at no more than twice
-// the bits, where a bit counts once for each run that it is looked at in.
+// The lowest run of n adjacent clear bits among the first `bits`, where there is one. The jumping search of source 000,
+// Figure 6: a run is looked at from its last bit down, and a set bit makes the next run start behind it. It jumps while
+// the last bit is set; then it goes down a map word at a time. It looks at no more than twice the bits, where a bit
+// counts once for each run that it is looked at in.
 pub fn lowest_run(map: &[u64], n: usize, bits: usize) -> Found
     requires { (0 < n) × (n ≤ bits) × (bits ≤ 64 * length map.now) × (bits ≤ 1024) }
-    ensures { (result.start ≡ lowest_run (is_clear map.now) n bits) × (result.looks ≤ 2 * bits) }
+    ensures start { let first = lowest_run (is_clear map.now) n bits in
+        MatchOption result.start (bits ≡ first) (λ k. (k ≡ first) × (k < bits)) }
+    ensures few { result.looks ≤ 2 * bits }
 {
     let mut last = n - 1;
     let mut looks = 0;
@@ -47,13 +50,13 @@ pub fn lowest_run(map: &[u64], n: usize, bits: usize) -> Found
             looks += 1;
             last += n;
             if bits <= last {
-                break 'search bits;
+                break 'search None;
             }
         }
         let start = last - (n - 1);
         looks += 1;
         if n <= 1 {
-            break 'search start;
+            break 'search Some(start);
         }
         let mut end = last;
         loop {
@@ -63,12 +66,12 @@ pub fn lowest_run(map: &[u64], n: usize, bits: usize) -> Found
                 let clear = clear_above(digits, at);
                 if at - start < clear {
                     looks += at - start + 1;
-                    break 'search start;
+                    break 'search Some(start);
                 }
                 looks += clear + 1;
                 let used = at - clear;
                 if bits - n <= used {
-                    break 'search bits;
+                    break 'search None;
                 }
                 last = used + n;
                 continue 'search;
@@ -76,7 +79,7 @@ pub fn lowest_run(map: &[u64], n: usize, bits: usize) -> Found
             end = at / 64 * 64;
             if end <= start {
                 looks += at - start + 1;
-                break 'search start;
+                break 'search Some(start);
             }
             looks += at - end + 1;
         }

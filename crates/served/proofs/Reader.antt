@@ -17,10 +17,11 @@ use Rattle.model.proofs.Reached.{run_none, reached_step, reached_claims}
 use Rattle.tables.specs.Contract.{memory_of}
 use Rattle.tables.proofs.AnsweredLaws.{world_of}
 use Rattle.setup.specs.First.{prepared}
-use Rattle.lines.specs.declared.frame.Parsed.{Parsed}
-use Rattle.lines.specs.declared.frame.Parsed.TheVariants.{Frame, Bad}
+use Rattle.std.specs.Prelude.{Option, Some, None}
+use Rattle.lines.specs.declared.frame.Fields.{Fields}
+use Rattle.lines.specs.declared.line.Line.{Line}
+use Rattle.lines.specs.Lines.{Buffered}
 use Rattle.lines.specs.Frames.{parsed_of}
-use Rattle.lines.specs.LineLaws.{buffered_none}
 use Rattle.line_answers.specs.Output.{frame_call, answer_to, following, line_answer, after_line, lines_of, answers_of, first_world, output_of}
 use Rattle.reader.specs.Feeding.{fed, finished, fed_all, joined, fed_none, fed_end, fed_other, fed_chunks, lines_end, lines_other}
 use Rattle.line_answers.specs.Answered.{Core, Represents}
@@ -34,10 +35,10 @@ unfoldable after_lines : World → List (List ℕ) → World
 after_lines w [] = w
 after_lines w (l ∷ ls) = after_lines (after_line w l) ls
 
-after_to : (w : World) (x : Parsed) (es : List Element) → run w (elements_to x es) ≡ run (following w x) es
+after_to : (w : World) (x : Option Fields) (es : List Element) → run w (elements_to x es) ≡ run (following w x) es
 unfolding run
-after_to w (Frame f) es = refl
-after_to w Bad es = refl
+after_to w (Some f) es = refl
+after_to w None es = refl
 
 after_lines_lem : (ls : List (List ℕ)) (w : World) → after_lines w ls ≡ run w (elements_of ls)
 unfolding after_lines elements_of after_line run
@@ -81,9 +82,9 @@ first_reached = record {
   run_is = sym (run_none (begin 1024 1024 (memory_of (replicate 2048 0) (replicate 4096 0) (replicate 96 0) (replicate 96 0))));
 }
 
-line_reached : (w : World) (x : Parsed) → Reached w → Reached (following w x)
-line_reached w (Frame f) r = reached_step w (record { call = frame_call f; supplied = kept }) r
-line_reached w Bad r = r
+line_reached : (w : World) (x : Option Fields) → Reached w → Reached (following w x)
+line_reached w (Some f) r = reached_step w (record { call = frame_call f; supplied = kept }) r
+line_reached w None r = r
 
 after_reached : (w : World) (l : List ℕ) → Reached w → Reached (after_line w l)
 unfolding after_line
@@ -110,8 +111,8 @@ CoreClaims k w = Claims (world_of k.words k.bytes (memory_of k.permanent k.scrat
 represents_claims : (k : Core) (w : World) → Represents k w → Reached w → CoreClaims k w
 represents_claims k w s r = rw (s.state, s.memory) (reached_claims w r)
 
-module _ {k k₁ : Core} {line line₁ : List ℕ} {len : ℕ} {chunks : List (List ℕ)} {written : List ℕ}
-    (s : Represents k first_world) (z : length line ≡ 40) (d : FedChunks k line 0 chunks written k₁ line₁ len) where
+module _ {k k₁ : Core} {line line₁ : Line} {chunks : List (List ℕ)} {written : List ℕ}
+    (s : Represents k first_world) (z : Buffered line []) (d : FedChunks k line chunks written k₁ line₁) where
   abbrev input : List ℕ
   input = joined chunks
 
@@ -119,14 +120,14 @@ module _ {k k₁ : Core} {line line₁ : List ℕ} {len : ℕ} {chunks : List (L
   pub chunks_claims : CoreClaims k₁ (fed first_world [] input).world
   chunks_claims =
       represents_claims k₁ (fed first_world [] input).world
-      (rw (fed_chunks chunks first_world []) at (fed_after first_world [] d s (buffered_none line z)).represents)
+      (rw (fed_chunks chunks first_world []) at (fed_after first_world [] d s z).represents)
       (fed_reached input first_world [] first_reached)
 
   -- after the end of the input: with the lines of the calls of all its frames
-  pub program_claims : {k₂ : Core} {out out₁ : List ℕ} {n : ℕ} → Finishes (held k₁ line₁ len out 0) (held k₂ line₁ 0 out₁ n)
+  pub program_claims : {k₂ : Core} {line₂ : Line} {out out₁ : List ℕ} {n : ℕ} → Finishes (held k₁ line₁ out 0) (held k₂ line₂ out₁ n)
       → CoreClaims k₂ (run first_world (elements_of (lines_of [] input)))
   program_claims {k₂} f =
-      let a = fed_after first_world [] d s (buffered_none line z) in
+      let a = fed_after first_world [] d s z in
       let v = f.leaves (fed_all first_world [] chunks).world (fed_all first_world [] chunks).line a.represents a.buffered in
       let w : World = (finished (fed first_world [] input).world (fed first_world [] input).line).world in
       subst (CoreClaims k₂) (output_world input)
@@ -140,12 +141,12 @@ unfolding run step lines_from onto
 run_trace [] w = refl
 run_trace (e ∷ es) w = run_trace es (step w e)
 
-answer_by_lem : (w : World) (x : Parsed) (lines : List (List ℕ)) (es : List Element)
+answer_by_lem : (w : World) (x : Option Fields) (lines : List (List ℕ)) (es : List Element)
     → answer_by x (lines_from w (elements_to x es)) ++ answers_by lines (left_by x (lines_from w (elements_to x es)))
     ≡ answer_to w x ++ answers_by lines (lines_from (following w x) es)
 unfolding lines_from
-answer_by_lem w (Frame f) lines es = refl
-answer_by_lem w Bad lines es = refl
+answer_by_lem w (Some f) lines es = refl
+answer_by_lem w None lines es = refl
 
 answers_by_lem : (lines : List (List ℕ)) (w : World) → answers_of w lines ≡ answers_by lines (lines_from w (elements_of lines))
 unfolding answers_of answers_by elements_of line_answer after_line

@@ -1,19 +1,18 @@
 -- The calls of an input of frames, and how their answers stand on the output.
 -- Assumes nothing.
-use Rattle.std.specs.Prelude.{ℕ, List, [], ◌∷◌, ◌++◌}
+use Rattle.std.specs.Prelude.{ℕ, List, [], ◌∷◌, ◌++◌, Option, Some, None}
 use Rattle.model.specs.Calls.{outcome_of}
 use Rattle.model.specs.Run.{kept, Element, World, supplied_to, step}
 use Rattle.model.specs.Run as calls
-use Rattle.lines.specs.declared.frame.Parsed.{Parsed}
-use Rattle.lines.specs.declared.frame.Parsed.TheVariants.{Frame, Bad}
+use Rattle.lines.specs.declared.frame.Fields.{Fields}
 use Rattle.lines.specs.Frames.{parsed_of}
 use Rattle.lines.specs.Answers.{answer_of}
 use Rattle.line_answers.specs.Output.{frame_call}
 
 -- a line that is a frame is a call, lent what is kept; any other line is none
-abbrev pub elements_to : Parsed → List Element → List Element
-elements_to (Frame f) es = record { call = frame_call f; supplied = kept } ∷ es
-elements_to Bad es = es
+abbrev pub elements_to : Option Fields → List Element → List Element
+elements_to (Some f) es = record { call = frame_call f; supplied = kept } ∷ es
+elements_to None es = es
 
 -- the calls of lines, in their order
 unfoldable pub elements_of : List (List ℕ) → List Element
@@ -32,16 +31,16 @@ onto [] trace = trace
 onto (l ∷ ls) trace = onto ls (l ∷ trace)
 
 -- a line of the input is answered by the next call's reply where it is a frame, by 18 where it is not
-abbrev pub answer_by : Parsed → List calls.Line → List ℕ
-answer_by (Frame f) [] = []
-answer_by (Frame f) (l ∷ ls) = answer_of l.reply.status l.reply.value
-answer_by Bad ls = answer_of 18 0
+abbrev pub answer_by : Option Fields → List calls.Line → List ℕ
+answer_by (Some f) [] = []
+answer_by (Some f) (l ∷ ls) = answer_of l.reply.status l.reply.value
+answer_by None ls = answer_of 18 0
 
 -- the replies that are left for the next lines
-abbrev pub left_by : Parsed → List calls.Line → List calls.Line
-left_by (Frame f) [] = []
-left_by (Frame f) (l ∷ ls) = ls
-left_by Bad ls = ls
+abbrev pub left_by : Option Fields → List calls.Line → List calls.Line
+left_by (Some f) [] = []
+left_by (Some f) (l ∷ ls) = ls
+left_by None ls = ls
 
 -- the answers to all lines of an input, by the replies of its calls
 unfoldable pub answers_by : List (List ℕ) → List calls.Line → List ℕ

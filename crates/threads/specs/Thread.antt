@@ -1,10 +1,14 @@
 -- Ops 01 and 02: one law for each way that their checks end, and what they leave.
 -- Assumes nothing.
-use Rattle.std.specs.Prelude.{not, ◌≡◌, ◌≢◌, List, ℕ, ◌≤◌, ◌<◌, leb}
+use Rattle.std.specs.Prelude.{not, ◌≡◌, ◌≢◌, List, ℕ, ◌≤◌, ◌<◌, leb, eqb, Option, None, Some, SomeIff}
+use Rattle.std.specs.Option.{ok_or}
 use Rattle.std.proofs.Math.Path.{refl, sym}
 use Rattle.std.proofs.Common.{◌∙◌, arith}
-use borrow.Author.Tests.{le-leb, lt-leb, lt-ltb, le-ltb}
-use Rattle.layout.specs.Choice.{refuse, refuse_first, hit, skip, peel}
+use borrow.Author.Tests.{le-leb, lt-leb, lt-ltb, le-ltb, eqb-true, eqb-false, leb-true, leb-false}
+use Rattle.layout.specs.Choice.{refuse, cases, refuse_first, hit, skip, peel}
+use Rattle.layout.specs.Answer.{Verdict}
+use Rattle.layout.specs.declared.answer.Refusal.TheVariants.{Kind}
+use Rattle.rights.specs.Kinds.{IsKind}
 use Rattle.model.specs.State.{State, thread_at, with_kind, with_thread}
 use Rattle.model.specs.Checks.{is_started, called}
 use Rattle.model.specs.Threads.{is_kind, startable, start_rest, start_state, start_change, end_rest, end_state, end_change}
@@ -43,6 +47,15 @@ module _ (s : State) (t p : ℕ) where
       start_accepted z l =
           let n : p ≡ 0 → ⊥ = z in
           rw (lt-leb 16 t h, le-ltb 0 (thread_at s t).kind (omega arith), lt-ltb 0 p (omega arith), lt-ltb p 4 (omega arith))
+
+      -- o is the kind with the number p, if there is one
+      pub start_by_kind : (o : Option ℕ) → SomeIff o (IsKind p) p → Verdict (ok_or o Kind) p (start_rest s t p)
+      start_by_kind None f = cases (eqb p 0)
+          (λ z. start_no_kind (eqb-true p 0 z))
+          (λ n. cases (leb p 3)
+          (λ l. absurd (f (omega (arith, eqb-false p 0 n), leb-true p 3 l)))
+          (λ g. start_other_kind (eqb-false p 0 n) (omega (arith, leb-false p 3 g))))
+      start_by_kind (Some k) e = (e.1, sym (start_accepted (λ z. omega (arith, z, e.0.0)) e.0.1))
 
 -- ---- after 2, 3 and 4 of a thread that is to start: n is what check_start answers
 

@@ -2,14 +2,16 @@
 #![tactic(auto)]
 
 ghost use Rattle.std.specs.Prelude.{◌≡◌, ◌<◌};
+ghost use Rattle.layout.specs.Answer.{status_of, answer_of, Verdict};
 ghost use Rattle.model.specs.State.{thread_at, with_kind, with_thread};
 ghost use Rattle.model.specs.Threads.{startable, start_change, end_rest, end_change};
 ghost use Rattle.model.specs.Calls as calls;
 ghost use Rattle.tables.specs.Decode.{Shaped, state_of, Holds};
-ghost use Rattle.tables.specs.Contract.{Changes, Answers, Ready, memory_of};
+ghost use Rattle.tables.specs.Contract.{Changes, Answers, Ready};
 
-use layout::answer::Answer;
-use tables::{Bytes, ThreadWords, Words};
+use layout::answer::Refusal;
+use rights::Kind;
+use tables::{Buffers, Bytes, ThreadWords, Words};
 
 // Another kind of a thread, whose stack stays as it is.
 fn put_kind(words: &mut Words, bytes: &Bytes, t: usize, kind: u64)
@@ -22,115 +24,75 @@ fn put_kind(words: &mut Words, bytes: &Bytes, t: usize, kind: u64)
 
 // ---- op 01, start thread
 
-// Refusals 2, 3 and 4 of a thread that is to start.
-pub fn check_start(words: &Words, bytes: &Bytes, t: u64, kind: u64) -> u64
-    ensures { result ≡ startable (state_of words.now bytes.now) t kind 0 }
+// Refusals 2, 3 and 4 of a thread that is to start; the kind, where there are none.
+pub fn check_start(words: &Words, bytes: &Bytes, t: u64, kind: u64) -> Result<Kind, Refusal>
+    ensures { Verdict result kind (startable (state_of words.now bytes.now) t kind 0) }
 {
     if 16 <= t {
-        return 2;
+        return Err(Refusal::Thread);
     }
     let own = held_threads::thread_at(words, t as usize).kind;
     if own != 0 {
-        return 3;
+        return Err(Refusal::Started);
     }
-    if kind == 0 {
-        return 4; // no kind
-    }
-    if 3 < kind {
-        return 4;
-    }
-    0
+    Kind::new(kind).ok_or(Refusal::Kind)
 }
 
 // After refusal 1.
-pub fn start_on(words: &mut Words, bytes: &Bytes, t: u64, kind: u64) -> Answer
+pub fn start_on(words: &mut Words, bytes: &Bytes, t: u64, kind: u64) -> Result<u64, Refusal>
     requires { Ready words.old bytes.now }
-    ensures { Changes result (start_change (state_of words.old bytes.now) t kind)
+    ensures { Changes (answer_of result) (start_change (state_of words.old bytes.now) t kind)
         words.old bytes.now words.new bytes.now }
 {
-    let status = check_start(words, bytes, t, kind);
-    if status == 0 {
-        put_kind(words, bytes, t as usize, kind);
-    }
-    Answer { status, value: 0 }
+    check_start(words, bytes, t, kind)?;
+    put_kind(words, bytes, t as usize, kind);
+    Ok(0)
 }
 
 pub fn start(
     words: &mut Words,
     bytes: &Bytes,
-    permanent: &[u64],
-    scratch: &[u64],
-    map: &[u64],
-    written: &[u64],
+    buffers: &Buffers<'_>,
     t: u64,
     kind: u64,
-) -> Answer
+) -> Result<u64, Refusal>
     requires { Ready words.old bytes.now }
-    ensures { Answers result (calls.start t kind)
-        words.old bytes.now (memory_of permanent.now scratch.now map.now written.now)
-        words.new bytes.now (memory_of permanent.now scratch.now map.now written.now) }
+    ensures { Answers (answer_of result) (calls.start t kind)
+        words.old bytes.now buffers.now words.new bytes.now buffers.now }
 {
-    let fit = callers::lengths_fit(words, bytes, permanent, scratch, map, written);
-    if !fit {
-        return Answer {
-            status: 1,
-            value: 0,
-        };
-    }
+    callers::check_lengths(words, bytes, buffers)?; // refusal 1 of op 01
     start_on(words, bytes, t, kind)
 }
 
 // ---- op 02, end thread
 
-fn check_end(words: &Words, bytes: &Bytes, t: u64) -> u64
-    ensures { result ≡ end_rest (state_of words.now bytes.now) t }
+fn check_end(words: &Words, bytes: &Bytes, t: u64) -> Result<(), Refusal>
+    ensures { status_of result ≡ end_rest (state_of words.now bytes.now) t }
 {
-    let refusal = callers::check_thread(words, bytes, t);
-    if refusal != 0 {
-        return refusal;
-    }
+    callers::check_thread(words, bytes, t)?;
     if 0 < held_threads::thread_at(words, t as usize).len {
-        return 11;
+        return Err(Refusal::Entries);
     }
-    0
+    Ok(())
 }
 
 // After refusal 1.
-pub fn end_on(words: &mut Words, bytes: &Bytes, t: u64) -> Answer
+pub fn end_on(words: &mut Words, bytes: &Bytes, t: u64) -> Result<u64, Refusal>
     requires { Ready words.old bytes.now }
-    ensures { Changes result (end_change (state_of words.old bytes.now) t) words.old bytes.now words.new bytes.now }
+    ensures { Changes (answer_of result) (end_change (state_of words.old bytes.now) t)
+        words.old bytes.now words.new bytes.now }
 {
-    let refusal = check_end(words, bytes, t);
-    if refusal == 0 {
-        put_kind(words, bytes, t as usize, 0);
-    }
+    check_end(words, bytes, t)?;
+    put_kind(words, bytes, t as usize, 0);
     let value = 0; // none is named
-    Answer {
-        status: refusal,
-        value,
-    }
+    Ok(value)
 }
 
-pub fn end(
-    words: &mut Words,
-    bytes: &Bytes,
-    permanent: &[u64],
-    scratch: &[u64],
-    map: &[u64],
-    written: &[u64],
-    t: u64,
-) -> Answer
+pub fn end(words: &mut Words, bytes: &Bytes, buffers: &Buffers<'_>, t: u64) -> Result<u64, Refusal>
     requires { Ready words.old bytes.now }
-    ensures { Answers result (calls.end t)
-        words.old bytes.now (memory_of permanent.now scratch.now map.now written.now)
-        words.new bytes.now (memory_of permanent.now scratch.now map.now written.now) }
+    ensures { Answers (answer_of result) (calls.end t)
+        words.old bytes.now buffers.now words.new bytes.now buffers.now }
 {
-    let fits = callers::lengths_fit(words, bytes, permanent, scratch, map, written);
-    if !fits {
-        return Answer {
-            status: 1,
-            value: 0,
-        };
-    }
+    callers::check_lengths(words, bytes, buffers)?; // refusal 1 of op 02
     end_on(words, bytes, t)
 }

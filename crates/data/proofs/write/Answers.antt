@@ -1,7 +1,9 @@
 -- `write` meets its contract: refused by the caller, by the object or its words, or accepted.
 use mathlib.Core.Path.{◌≡◌, refl, sym, ◌∙◌}
+use borrow.Author.Rules.{rules}
+use Rattle.std.specs.Prelude.{Err}
+use Rattle.layout.specs.Answer.{number_some}
 use Rattle.model.specs.State.{State, Memory}
-use Rattle.model.specs.Data.{data_rest}
 use Rattle.model.specs.Calls as calls
 use Rattle.model.proofs.Accepted.{Admitted}
 use Rattle.tables.specs.Decode.{state_of}
@@ -10,60 +12,50 @@ use Rattle.tables.proofs.AnsweredLaws.{answered_refused, answered_accepted}
 use Rattle.callers.specs.Caller.{caller_refused, caller_admitted, admit_rest}
 use Rattle.objects.specs.declared.index.Part.TheVariants.{Data}
 use Rattle.objects.specs.Fits.{fits_stores}
-use Rattle.layout.specs.Verdict.{verdict_passed, verdict_stopped}
-use Rattle.objects.specs.Indexed.{word_of, indexed_cases}
 use Rattle.objects.proofs.Effects.{word_in}
 use Rattle.data.specs.Written.{written_in, written_word}
 use Rattle.data.proofs.write.Goals as goal
-use Rattle.data.proofs.write.Goals.{Else-refusal-ne0, In-At}
+use Rattle.data.proofs.write.Goals.{In_ok-check_caller}
 
-abbrev state : Else-refusal-ne0 → State
+abbrev state : In_ok-check_caller → State
 state c = state_of c.args.words.now c.args.bytes.now
 
-abbrev memory : Else-refusal-ne0 → Memory
+abbrev memory : In_ok-check_caller → Memory
 memory c = memory_of c.args.permanent.now c.args.scratch.now c.args.map.now c.args.written.now
 
-abbrev call : Else-refusal-ne0 → calls.Call
-call c = calls.write c.args.t c.args.p c.args.q c.args.word
+called : (c : In_ok-check_caller) → Admitted (state c) (memory c) c.args.t
+called c = caller_admitted _ _ _ c.in_ok-check_caller.ensures refl
 
-called : (c : Else-refusal-ne0) → Admitted (state c) (memory c) c.args.t
-called c = caller_admitted (state c) (memory c) c.args.t c.check_caller-refusal.ensures c.if-refusal-ne0.false
-
-found : (c : In-At) → (data_rest (state (goal.at.In-At c).Else-refusal-ne0) (memory (goal.at.In-At c).Else-refusal-ne0) c.args.t c.args.p c.args.q 0 ≡ 0) × (c.in-At.w ≡ word_of Data (state (goal.at.In-At c).Else-refusal-ne0) (memory (goal.at.In-At c).Else-refusal-ne0) c.args.p c.args.q)
-found c = verdict_passed indexed_cases _ _ (sym c.in-At.is ∙ c.check_index.ensures _)
-
-pub returns-then-refusal-ne0 : goal.returns-then-refusal-ne0
-returns-then-refusal-ne0 c =
-    answered_refused _ _ _ (calls.write _ _ _ _) c.requires (caller_refused _ _ _ c.check_caller-refusal.ensures c.if-refusal-ne0.true _) c.if-refusal-ne0.true
+pub returns-in_err-check_caller : goal.returns-in_err-check_caller
+returns-in_err-check_caller c =
+    let e = c.in_err-check_caller.field-0.0 in
+    let q : c.from_residual.result ≡ Err e = search rules in
+    rw q (answered_refused _ _ _ (calls.write _ _ _ _) c.requires (caller_refused _ _ _ c.in_err-check_caller.ensures (number_some e) _) (number_some e))
 
 pub check_index-requires : goal.check_index-requires
 check_index-requires c =
-    (c.requires, fits_stores _ _ (called c).supplied, (called c).called)
+    let a = called (goal.at.check_index-requires c).In_ok-check_caller in
+    (c.requires, fits_stores _ _ a.supplied, a.called)
+
+pub returns-in_err-w : goal.returns-in_err-w
+returns-in_err-w c =
+    let d = (goal.at.returns-in_err-w c).In_ok-check_caller in
+    let e = c.in_err-w.field-0.0 in
+    let q : c.from_residual-in_err-w.result ≡ Err e = search rules in
+    rw q (answered_refused _ _ (memory d) (calls.write _ _ _ _) c.requires (c.in_err-w.ensures ∙ sym (admit_rest _ _ _ (called d) _)) (number_some e))
 
 pub put_word-requires : goal.put_word-requires
 put_word-requires c =
-    word_in Data (state (goal.at.put_word-requires c).Else-refusal-ne0) (memory (goal.at.put_word-requires c).Else-refusal-ne0) _ _ _ (found (goal.at.put_word-requires c).In-At).1 c.requires.good (fits_stores _ _ (called (goal.at.put_word-requires c).Else-refusal-ne0).supplied) _ (found (goal.at.put_word-requires c).In-At).0
+    let d = (goal.at.put_word-requires c).In_ok-check_caller in
+    word_in Data (state d) (memory d) _ _ _ c.in_ok-w.ensures.0 c.requires.good (fits_stores _ _ (called d).supplied) _ c.in_ok-w.ensures.1
 
 pub set_bit-requires : goal.set_bit-requires
 set_bit-requires c =
-    (refl, written_in (state (goal.at.set_bit-requires c).Else-refusal-ne0) (memory (goal.at.set_bit-requires c).Else-refusal-ne0) _ _ _ _ (found (goal.at.set_bit-requires c).In-At).1 (found (goal.at.set_bit-requires c).In-At).0 c.requires.good (called (goal.at.set_bit-requires c).Else-refusal-ne0).supplied)
+    let d = (goal.at.set_bit-requires c).In_ok-check_caller in
+    (refl, written_in (state d) (memory d) _ _ _ _ c.in_ok-w.ensures.0 c.in_ok-w.ensures.1 c.requires.good (called d).supplied)
 
-pub returns-in-Refused : goal.returns-in-Refused
-returns-in-Refused c =
-    let e = verdict_stopped indexed_cases _ _ (sym c.in-Refused.is ∙ c.check_index.ensures _) in
-    answered_refused _ _ (memory (goal.at.returns-in-Refused c).Else-refusal-ne0) (call (goal.at.returns-in-Refused c).Else-refusal-ne0) c.requires (e.0 ∙ sym (admit_rest _ _ _ (called (goal.at.returns-in-Refused c).Else-refusal-ne0) _)) e.1
-
-pub returns-in-At : goal.returns-in-At
-returns-in-At c =
-    let y = c.requires in
-    answered_accepted _ _ (memory (goal.at.returns-in-At c).Else-refusal-ne0) (call (goal.at.returns-in-At c).Else-refusal-ne0) y (sym (admit_rest _ _ _ (called (goal.at.returns-in-At c).Else-refusal-ne0) _ ∙ (found (goal.at.returns-in-At c).In-At).0)) refl refl refl (record { sized = y.sized; state = refl })
-    (written_word (state (goal.at.returns-in-At c).Else-refusal-ne0) (memory (goal.at.returns-in-At c).Else-refusal-ne0) c.args.t _ _ _ (found (goal.at.returns-in-At c).In-At).1 _ c.put_word.ensures c.set_bit.ensures)
-
-pub shape_of-permanent-in-At : goal.shape_of-permanent-in-At
-shape_of-permanent-in-At c = c.put_word.auto.permanent
-
-pub shape_of-scratch-in-At : goal.shape_of-scratch-in-At
-shape_of-scratch-in-At c = c.put_word.auto.scratch
-
-pub shape_of-written-in-At : goal.shape_of-written-in-At
-shape_of-written-in-At c = c.set_bit.auto.map
+pub returns : goal.returns
+returns c =
+    let d = (goal.at.returns c).In_ok-check_caller in
+    answered_accepted _ _ (memory d) (calls.write _ _ _ _) c.requires (sym (admit_rest _ _ _ (called d) _ ∙ c.in_ok-w.ensures.1)) refl refl refl (record { sized = c.requires.sized; state = refl })
+    (written_word (state d) (memory d) c.args.t _ _ _ c.in_ok-w.ensures.0 _ c.put_word.ensures c.set_bit.ensures)

@@ -10,17 +10,11 @@ returns-then-not-is_made c =
     let a = c.args in
     not_made a.words.now a.bytes.now a.t a.q c.requires.2 c.area_at-x.ensures c.is_made.ensures (not-true _ (ap not c.if-not-is_made.true))
 
-pub has_right-requires : goal.has_right-requires
-has_right-requires c = (c.requires.0, c.requires.1)
-
 pub returns-then-not-has_right : goal.returns-then-not-has_right
 returns-then-not-has_right c =
     let a = c.args in
     no_right a.words.now a.bytes.now a.t a.q c.requires.2 c.area_at-x.ensures c.is_made.ensures (not-false _ (ap not c.if-not-is_made.false))
     c.has_right.ensures (not-true _ (ap not c.if-not-has_right.true))
-
-pub thread_at-requires : goal.thread_at-requires
-thread_at-requires c = c.requires.1.thread
 
 pub returns-then-thread_at-ge32 : goal.returns-then-thread_at-ge32
 returns-then-thread_at-ge32 c =
@@ -33,6 +27,3 @@ returns c =
     let a = c.args in
     place_left a.words.now a.bytes.now a.t a.q c.requires.2 c.area_at-x.ensures c.is_made.ensures (not-false _ (ap not c.if-not-is_made.false))
     c.has_right.ensures (not-false _ (ap not c.if-not-has_right.false)) c.requires.1.thread c.thread_at.ensures c.if-thread_at-ge32.false
-
-pub area_at-x-requires : goal.area_at-x-requires
-area_at-x-requires c = c.requires.2

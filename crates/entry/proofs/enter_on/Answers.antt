@@ -1,39 +1,26 @@
 -- `enter_on` meets its contract: one law for each way that it ends.
-use native.Mathlib.Omega.{arith}
-use Rattle.model.specs.State.{State}
-use Rattle.model.proofs.Accepted.{Called}
-use Rattle.tables.specs.Decode.{state_of}
+use Rattle.std.proofs.Common.{rules, arith, refl, ◌≡◌}
+use Rattle.layout.specs.Answer.{answer_of, refused, number_of, number_some}
 use Rattle.tables.proofs.AnsweredLaws.{changed_refused}
 use Rattle.callers.specs.Caller.{thread_called}
 use Rattle.entry.specs.Enter.{enter_not_called, enter_no_area}
 use Rattle.entry.proofs.enter_on.Goals as goal
-use Rattle.entry.proofs.enter_on.Goals.{Else-refusal-ne0}
 
-abbrev state : Else-refusal-ne0 → State
-state c = state_of c.args.words.now c.args.bytes.now
-
-called : (c : Else-refusal-ne0) → Called (state c) c.args.t
-called c = thread_called (state c) c.args.t c.check_thread-refusal.ensures c.if-refusal-ne0.false
-
-pub returns-then-refusal-ne0 : goal.returns-then-refusal-ne0
-returns-then-refusal-ne0 c =
-    changed_refused _ _ _ c.requires (enter_not_called _ _ _ c.check_thread-refusal.ensures c.if-refusal-ne0.true) c.if-refusal-ne0.true
+pub returns-in_err-check_thread : goal.returns-in_err-check_thread
+returns-in_err-check_thread c =
+    let r = c.in_err-check_thread in
+    let q : answer_of c.from_residual.result ≡ refused (number_of r.field-0.0) = search rules in
+    let z = number_some r.field-0.0 in
+    rw q (changed_refused _ _ _ c.requires (enter_not_called _ _ _ r.ensures z) z)
 
 pub returns-then-q-ge64 : goal.returns-then-q-ge64
 returns-then-q-ge64 c =
-    let a = c.args in
-    changed_refused _ _ _ c.requires (enter_no_area (state (goal.at.returns-then-q-ge64 c).Else-refusal-ne0) a.t a.q (called (goal.at.returns-then-q-ge64 c).Else-refusal-ne0) c.if-q-ge64.true) (λ z. omega arith)
+    let k = thread_called _ _ c.in_ok-check_thread.ensures refl in
+    changed_refused _ _ _ c.requires (enter_no_area _ _ _ k c.if-q-ge64.true) (λ z. omega arith)
 
 pub enter_scope-requires : goal.enter_scope-requires
 enter_scope-requires c =
-    (c.requires, called (goal.at.enter_scope-requires c).Else-refusal-ne0, c.if-q-ge2.true, c.if-q-ge64.false)
+    (c.requires, thread_called _ _ c.in_ok-check_thread.ensures refl, c.if-q-ge2.true, c.if-q-ge64.false)
 
 pub enter_standing-requires : goal.enter_standing-requires
-enter_standing-requires c =
-    (c.requires, called (goal.at.enter_standing-requires c).Else-refusal-ne0, c.if-q-ge2.false)
-
-pub returns-then-q-ge2 : goal.returns-then-q-ge2
-returns-then-q-ge2 c = c.enter_scope.ensures
-
-pub returns : goal.returns
-returns c = c.enter_standing.ensures
+enter_standing-requires c = (c.requires, thread_called _ _ c.in_ok-check_thread.ensures refl, c.if-q-ge2.false)

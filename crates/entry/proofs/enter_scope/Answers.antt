@@ -1,55 +1,47 @@
 -- `enter_scope` meets its contract: refused, or the scope is entered.
-use mathlib.Core.Path.{◌≡◌, ap, sym, ◌∙◌}
-use Rattle.model.specs.State.{stack_at, innermost}
-use Rattle.model.specs.Scopes.{enter_rest, enter_change}
+use Rattle.std.proofs.Common.{rules, refl, sym, ◌≡◌, ◌∙◌, ℕ}
+use Rattle.layout.specs.Answer.{answer_of, refused, number_of, number_some}
+use Rattle.model.specs.Scopes.{enter_rest}
 use Rattle.model.proofs.Accepted.{enter_ok}
 use Rattle.model.proofs.KeepsEnter.{good_enter}
-use Rattle.tables.specs.declared.Entry.{Entry}
 use Rattle.tables.specs.Decode.{state_of}
 use Rattle.tables.proofs.Laws.{area_read}
 use Rattle.tables.proofs.AnsweredLaws.{changed_refused, changed_accepted}
-use Rattle.entry.specs.Enter.{there_refused, scope_checked, enterable}
+use Rattle.entry.specs.Enter.{scope_rest, there_refused, scope_checked, enterable}
 use Rattle.entry.proofs.enter_scope.Goals as goal
-use Rattle.entry.proofs.enter_scope.Goals.{After-check_scope-status, After-top_entry-inner}
+use Rattle.entry.proofs.enter_scope.Goals.{After-area_at}
 
-pub returns-then-refusal-ne0 : goal.returns-then-refusal-ne0
-returns-then-refusal-ne0 c =
+pub returns-in_err-check_there : goal.returns-in_err-check_there
+returns-in_err-check_there c =
     let a = c.args in
-    changed_refused _ _ _ c.requires.0
-    (there_refused (state_of a.words.now a.bytes.now) a.t a.q c.requires.1 c.requires.3 c.check_there-refusal.ensures c.if-refusal-ne0.true)
-    c.if-refusal-ne0.true
+    let r = c.in_err-check_there in
+    let q : answer_of c.from_residual.result ≡ refused (number_of r.field-0.0) = search rules in
+    let z = number_some r.field-0.0 in
+    rw q (changed_refused _ _ _ c.requires.0 (there_refused (state_of a.words.now a.bytes.now) a.t a.q c.requires.1 c.requires.3 r.ensures z) z)
 
-inner : (i : After-top_entry-inner) → let a = i.args in i.top_entry-inner.result.inner ≡ innermost (stack_at (state_of a.words.now a.bytes.now) a.t)
-inner i = ap (λ (y : Entry). y.inner) i.top_entry-inner.ensures
-
-checked : (m : After-check_scope-status) → m.check_scope-status.result ≡ enter_rest (state_of m.args.words.now m.args.bytes.now) m.args.t m.args.q
-checked m =
+-- n is what check_scope answers
+checked : (m : After-area_at) {n : ℕ} → let a = m.args in n ≡ scope_rest m.area_at.result m.top_entry-inner.result.inner
+    → n ≡ enter_rest (state_of a.words.now a.bytes.now) a.t a.q
+checked m e =
     let a = m.args in
-    scope_checked (state_of a.words.now a.bytes.now) a.t a.q m.requires.1 m.requires.3 m.check_there-refusal.ensures m.requires.2 m.if-refusal-ne0.false
-    (m.area_at.ensures ∙ sym (area_read a.words.now a.bytes.now a.q m.requires.3)) m.top_entry-inner.ensures m.check_scope-status.ensures
+    scope_checked (state_of a.words.now a.bytes.now) a.t a.q m.requires.1 m.requires.3 m.in_ok-check_there.ensures m.requires.2 refl
+    (m.area_at.ensures ∙ sym (area_read a.words.now a.bytes.now a.q m.requires.3)) m.top_entry-inner.ensures e
 
-pub returns-then-status-ne0 : goal.returns-then-status-ne0
-returns-then-status-ne0 c = changed_refused _ _ _ c.requires.0 (checked (goal.at.returns-then-status-ne0 c).After-check_scope-status) c.if-status-ne0.true
+pub returns-in_err-check_scope : goal.returns-in_err-check_scope
+returns-in_err-check_scope c =
+    let r = c.in_err-check_scope in
+    let q : answer_of c.from_residual-in_err-check_scope.result ≡ refused (number_of r.field-0.0) = search rules in
+    rw q (changed_refused _ _ _ c.requires.0 (checked (goal.at.returns-in_err-check_scope c).After-area_at r.ensures) (number_some r.field-0.0))
 
-pub apply_enter-value-requires : goal.apply_enter-value-requires
-apply_enter-value-requires c =
-    let a = c.args in
-    let k = enterable (state_of a.words.now a.bytes.now) a.t a.q c.requires.0.good (checked (goal.at.apply_enter-value-requires c).After-check_scope-status) c.if-status-ne0.false in
-    record { scope = (c.requires.0.sized, k, c.requires.2); parent = inner (goal.at.apply_enter-value-requires c).After-top_entry-inner }
+pub apply_enter-requires-clause-scope : goal.apply_enter-requires-clause-scope
+apply_enter-requires-clause-scope c =
+    let e = checked (goal.at.apply_enter-requires-clause-scope c).After-area_at c.in_ok-check_scope.ensures in
+    (c.requires.0.sized, enterable _ _ _ c.requires.0.good e refl, c.requires.2)
 
 pub returns : goal.returns
 returns c =
     let a = c.args in
     let s = state_of a.words.now a.bytes.now in
-    let z = c.if-status-ne0.false in
-    changed_accepted _ _ (enter_change s a.t a.q) c.requires.0 (checked (goal.at.returns c).After-check_scope-status) z c.apply_enter-value.ensures.value c.apply_enter-value.ensures.state
-    (good_enter s a.t a.q c.requires.0.good (enter_ok s a.t a.q (sym (checked (goal.at.returns c).After-check_scope-status) ∙ z)))
-
-pub check_there-refusal-requires : goal.check_there-refusal-requires
-check_there-refusal-requires c = (c.requires.0, c.requires.1, c.requires.3)
-
-pub top_entry-inner-requires : goal.top_entry-inner-requires
-top_entry-inner-requires c = (c.requires.0, c.requires.1.thread)
-
-pub area_at-requires : goal.area_at-requires
-area_at-requires c = c.requires.3
+    let e = checked (goal.at.returns c).After-area_at c.in_ok-check_scope.ensures in
+    changed_accepted _ _ _ c.requires.0 e refl c.apply_enter.ensures.value c.apply_enter.ensures.state
+    (good_enter s a.t a.q c.requires.0.good (enter_ok s a.t a.q (sym e)))

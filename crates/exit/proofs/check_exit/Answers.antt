@@ -1,6 +1,6 @@
--- `exit::check_exit` meets its contract: one law for each way that it ends.
-use mathlib.Core.Path.{◌≡◌}
-use native.Mathlib.Omega.{arith}
+-- `check_exit` meets its contract: one law for each way that it ends.
+use Rattle.std.proofs.Common.{rules, arith, refl, ◌≡◌, ◌∙◌}
+use Rattle.layout.specs.Answer.{status_of, number_of, number_some}
 use Rattle.model.specs.State.{State, thread_at}
 use Rattle.tables.specs.Decode.{state_of}
 use Rattle.tables.proofs.Laws.{len_read}
@@ -20,11 +20,16 @@ returns-then-t-ge16 c = exit_no_thread _ _ c.if-t-ge16.true
 
 pub returns-then-thread_at-gt0 : goal.returns-then-thread_at-gt0
 returns-then-thread_at-gt0 c =
-    exit_accepted (state (goal.at.returns-then-thread_at-gt0 c).After-thread_at) c.args.t c.requires.good c.if-t-ge16.false (omega (arith, c.if-thread_at-gt0.true, len_is (goal.at.returns-then-thread_at-gt0 c).After-thread_at))
+    let l = len_is (goal.at.returns-then-thread_at-gt0 c).After-thread_at in
+    exit_accepted _ _ c.requires.good c.if-t-ge16.false (omega (arith, c.if-thread_at-gt0.true, l))
 
-pub returns-then-refusal-ne0 : goal.returns-then-refusal-ne0
-returns-then-refusal-ne0 c = exit_not_called _ _ c.check_thread-refusal.ensures c.if-refusal-ne0.true
+pub returns-in_err-check_thread : goal.returns-in_err-check_thread
+returns-in_err-check_thread c =
+    let r = c.in_err-check_thread in
+    let q : status_of c.from_residual.result ≡ number_of r.field-0.0 = search rules in
+    q ∙ exit_not_called _ _ r.ensures (number_some r.field-0.0)
 
 pub returns : goal.returns
 returns c =
-    exit_empty (state (goal.at.returns c).After-thread_at) c.args.t (thread_called _ _ c.check_thread-refusal.ensures c.if-refusal-ne0.false) (omega (arith, c.if-thread_at-gt0.false, len_is (goal.at.returns c).After-thread_at))
+    let l = len_is (goal.at.returns c).After-thread_at in
+    exit_empty _ _ (thread_called _ _ c.in_ok-check_thread.ensures refl) (omega (arith, c.if-thread_at-gt0.false, l))

@@ -1,16 +1,16 @@
 -- `exit::exit` meets its contract. Assumes nothing.
-use mathlib.Core.Path.{refl}
-use borrow.Author.Rules.{rules}
-use Rattle.tables.proofs.AnsweredLaws.{unfit_answered, fit_answered}
-use Rattle.callers.specs.Caller.{unfit, fit}
-use mathlib.Core.Bool.{not}
-use mathlib.Core.Path.{ap}
+use Rattle.std.proofs.Common.{rules, refl, ◌≡◌}
+use Rattle.layout.specs.Answer.{answer_of, refused, number_of, number_some}
+use Rattle.tables.proofs.AnsweredLaws.{answered_refused, fit_answered}
+use Rattle.callers.specs.Caller.{lengths_refused, lengths_passed}
 use Rattle.exit.proofs.exit.Goals as goal
 
-pub returns-then-not-fit : goal.returns-then-not-fit
-returns-then-not-fit c =
-    unfit_answered _ _ _ _ _ refl (search rules) (unfit _ _ c.lengths_fit-fit.ensures (ap not c.if-not-fit.true))
+pub returns-in_err-check_lengths : goal.returns-in_err-check_lengths
+returns-in_err-check_lengths c =
+    let r = c.in_err-check_lengths in
+    let q : answer_of c.from_residual.result ≡ refused (number_of r.field-0.0) = search rules in
+    let z = number_some r.field-0.0 in
+    rw q (answered_refused _ _ _ _ c.requires (lengths_refused _ _ r.ensures z _) z)
 
 pub returns : goal.returns
-returns c =
-    fit_answered _ _ _ _ _ refl (fit _ _ c.lengths_fit-fit.ensures (ap not c.if-not-fit.false)) c.exit_on.ensures
+returns c = fit_answered _ _ _ _ _ refl (search (rules, lengths_passed)) c.exit_on.ensures

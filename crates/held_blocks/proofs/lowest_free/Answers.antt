@@ -10,4 +10,4 @@ use Rattle.held_blocks.proofs.lowest_free.Goals as goal
 pub returns : goal.returns
 returns c =
     let a = c.args in
-    c.lowest_run.ensures.0 ∙ ap (λ (l : List ℕ). lowest_run (is_clear l) a.n a.blocks) (part_read a.words.now (search rules))
+    rw (part_read a.words.now (search rules)) at c.lowest_run.ensures.start

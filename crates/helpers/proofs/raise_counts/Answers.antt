@@ -10,7 +10,7 @@ use Rattle.helpers.proofs.raise_counts.Goals.{After-thread_at-len}
 pub loop-i-init : goal.loop-i-init
 loop-i-init c =
     let a = c.args in
-    (search rules, raised_none a.words.now a.bytes.now c.requires.0 a.t c.requires.1)
+    raised_none a.words.now a.bytes.now c.requires.0 a.t c.requires.1
 
 -- the length is read: it is at most 32
 room : (c : After-thread_at-len) → c.thread_at-len.result.len ≤ 32
@@ -26,21 +26,19 @@ raise_count-requires c =
     let l = c.loop-i in
     let a = c.args in
     let area = entry_area a.words.now a.bytes.now c.requires.0 a.t c.requires.1 c.thread_at-len.ensures l.i (search rules) c.entry_at-area.ensures in
-    (l.invariant.1.sized, area, raised_room a.words.now a.bytes.now c.requires.0 a.t c.requires.1 l.i l.invariant.1 c.thread_at-len.ensures (search rules) _ area)
+    (l.invariant.sized, area, raised_room a.words.now a.bytes.now c.requires.0 a.t c.requires.1 l.i l.invariant c.thread_at-len.ensures (search rules) _ area)
 
 pub loop-i-preserved : goal.loop-i-preserved
 loop-i-preserved c =
     let l = c.loop-i in
-    let a = c.args in (
-      search rules,
-      raised_more a.words.now a.bytes.now c.requires.0 a.t c.requires.1 l.i l.invariant.1 (omega (arith, room (goal.at.loop-i-preserved c).After-thread_at-len)) c.entry_at-area.ensures c.raise_count.ensures,
-    )
+    let a = c.args in
+    raised_more a.words.now a.bytes.now c.requires.0 a.t c.requires.1 l.i l.invariant (omega (arith, room (goal.at.loop-i-preserved c).After-thread_at-len)) c.entry_at-area.ensures c.raise_count.ensures
 
 pub returns : goal.returns
 returns c =
     let l = c.loop-i in
     let a = c.args in
-    rw (whole a.words.now a.bytes.now a.t c.requires.1 c.thread_at-len.ensures l.i (omega (arith, l.invariant.0))) at l.invariant.1
+    rw (whole a.words.now a.bytes.now a.t c.requires.1 c.thread_at-len.ensures l.i (omega arith)) at l.invariant
 
 pub thread_at-len-requires : goal.thread_at-len-requires
 thread_at-len-requires c = c.requires.1

@@ -1,11 +1,7 @@
-use Prim.Native.Nat.{◌-◌, ◌≤◌}
 use Rattle.model.specs.Helpers.{raised}
 use Rattle.tables.specs.Decode.{state_of, Holds}
 use Rattle.helpers.specs.Helper.{lowest}
 use Rattle.helpers.proofs.raise_counts.Given as goal
 
 abbrev pub invariant-loop-i : goal.invariant-loop-i
-invariant-loop-i l = (l.i ≤ l.len) × Holds l.words l.bytes (raised (state_of l.initial.words l.bytes) (lowest (state_of l.initial.words l.bytes) l.t l.i))
-
-abbrev pub decreases-loop-i : goal.decreases-loop-i
-decreases-loop-i l = l.len - l.i
+invariant-loop-i l = Holds l.words l.bytes (raised (state_of l.initial.words l.bytes) (lowest (state_of l.initial.words l.bytes) l.t l.i))

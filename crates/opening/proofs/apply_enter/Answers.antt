@@ -21,12 +21,3 @@ reenter-requires c =
 pub open-requires : goal.open-requires
 open-requires c =
     record { scope = (c.requires.scope.0, c.requires.scope.1, c.requires.scope.2, subst (λ (y : Area). y.count ≤ 0) (read (goal.at.open-requires c).After-area_at) c.if-area_at-gt0.false); parent = c.requires.parent }
-
-pub area_at-requires : goal.area_at-requires
-area_at-requires c = c.requires.scope.1.area
-
-pub returns-then-area_at-gt0 : goal.returns-then-area_at-gt0
-returns-then-area_at-gt0 c = c.reenter.ensures
-
-pub returns : goal.returns
-returns c = c.open.ensures

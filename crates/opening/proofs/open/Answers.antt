@@ -5,11 +5,6 @@ use Rattle.opening.specs.Entered.{parent_room, depth_room, generation_room, area
 use Rattle.opening.proofs.open.Goals as goal
 use Rattle.opening.proofs.open.Goals.{After-area_at, Start}
 
-pub push-requires : goal.push-requires
-push-requires c =
-    let k = c.requires.scope in
-    (k.0, k.1.thread, k.1.room)
-
 parent : (o : Start) → o.args.p < 64
 parent o = let a = o.args in parent_room (state_of a.words.now a.bytes.now) a.t a.q o.requires.scope.1 a.p o.requires.parent
 
@@ -43,9 +38,3 @@ returns c =
           (fresh_holds a.words.now a.bytes.now a.t a.q k.1 k.2 c.push.ensures _ c.area_at-2.ensures a.p c.requires.parent k.3 c.area_at.ensures c.opened_area-y.ensures
           c.put_display.ensures);
     }
-
-pub area_at-requires : goal.area_at-requires
-area_at-requires c = parent (goal.at.area_at-requires c).Start
-
-pub area_at-requires-2 : goal.area_at-requires-2
-area_at-requires-2 c = c.requires.scope.1.area

@@ -3,10 +3,6 @@ use Rattle.tables.specs.Decode.{state_of}
 use Rattle.opening.specs.Entered.{count_room, area_kept, value_open, open_holds}
 use Rattle.opening.proofs.reenter.Goals as goal
 
-pub push-requires : goal.push-requires
-push-requires c =
-    (c.requires.0, c.requires.1.thread, c.requires.1.room)
-
 pub reentered-requires : goal.reentered-requires
 reentered-requires c =
     let a = c.args in
@@ -20,6 +16,3 @@ returns c =
       state = rw c.put_area.ensures
           (open_holds a.words.now a.bytes.now a.t a.q c.requires.1 c.requires.2 c.push.ensures _ c.area_at-x.ensures c.requires.3 c.reentered.ensures);
     }
-
-pub area_at-x-requires : goal.area_at-x-requires
-area_at-x-requires c = c.requires.1.area

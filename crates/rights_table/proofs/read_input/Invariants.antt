@@ -1,8 +1,6 @@
 -- The measure is what is still missing of a full input: a read that adds nothing ends the loop.
-use mathlib.Core.Path.{◌≡◌}
-use Prim.Native.Nat.{◌-◌}
-use lib.ListN.{length}
-use Rattle.rights_table.specs.Counts.{IsPrefixLen}
+use Rattle.std.proofs.Common.{length, ◌-◌, ◌≡◌}
+use Rattle.console.specs.Counts.{IsPrefixLen}
 use Rattle.rights_table.proofs.read_input.Given as goal
 
 abbrev pub invariant-loop-n : goal.invariant-loop-n

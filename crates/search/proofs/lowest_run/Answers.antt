@@ -5,6 +5,7 @@ use mathlib.Core.Path.{◌≡◌, refl, sym, ◌∙◌}
 use Prim.Native.Nat.{ℕ, suc, ◌+◌, ◌-◌, ◌*◌, ◌/◌, ◌%◌, ◌^◌, ◌≤◌, ◌<◌}
 use native.Mathlib.Omega.{arith}
 use Rattle.bitmap.specs.Bitmap.{bit_at}
+use Rattle.runs.specs.LowestRun.{lowest_run, is_clear}
 use Rattle.search.specs.ClearDown.{digits_bound, all_down, one_down}
 use Rattle.search.specs.Search.{Sought, Looking, sought_first, looking_first, looking_more, sought_next, found, none}
 use Rattle.search.proofs.lowest_run.Goals as goal
@@ -214,23 +215,31 @@ loop-clear-preserved c =
       omega (arith, l.1, l.3, (word_bits at).0),
     )
 
+-- the last bit, a start and the looks where the search ends: with a run, and with none
+module _ {m : List ℕ} {n bits start looks : ℕ} (some : 0 < n) where
+  with_run : Looking m n bits start looks 0 → record { start : (start ≡ lowest_run (is_clear m) n bits) × (start < bits); few : looks ≤ 2 * bits }
+  with_run l = let f = found m n bits some l in record { start = (f.0, omega (arith, l.ends)); few = f.1 }
+
+  with_none : Sought m n bits start looks → bits < start + n → record { start : bits ≡ lowest_run (is_clear m) n bits; few : looks ≤ 2 * bits }
+  with_none s h = let f = none m n bits some s h in record { start = f.0; few = f.1 }
+
 pub returns-then-bits-last : goal.returns-then-bits-last
 returns-then-bits-last c =
     let l = c.loop-looks.invariant in
     let s = sought_next _ _ _ (omega arith) (window (omega arith) l.0 (omega arith) l.1) (λ z. c.if-bit-eq0.false (c.bit.ensures ∙ z)) (suc c.loop-looks.last) refl in
-    none _ _ _ c.requires.0 s (omega (arith, l.0))
+    with_none c.requires.0 s (omega (arith, l.0))
 
 pub returns-then-n-le1 : goal.returns-then-n-le1
 returns-then-n-le1 c =
     let l = c.loop-looks.invariant in
     let w = window (omega arith) l.0 (omega arith) l.1 in
-    found _ _ _ (omega arith) (looking_more _ _ _ (omega arith) w 1 0 (omega arith) (one_clear _ _ (sym c.bit.ensures ∙ c.if-bit-eq0.true)))
+    with_run (omega arith) (looking_more _ _ _ (omega arith) w 1 0 (omega arith) (one_clear _ _ (sym c.bit.ensures ∙ c.if-bit-eq0.true)))
 
 pub returns-then-at-start : goal.returns-then-at-start
 returns-then-at-start c =
     let l = c.loop-clear.invariant in
     let d = one_down _ _ c.digits_down-digits.ensures c.clear_above-clear.ensures c.if-digits-ne0.true in
-    found _ _ _ (omega arith) (looking_more _ _ _ (low l.1) l.0 _ 0 (omega arith) (λ j h. d.0.clear j (among _ _ _ h c.if-at-start.true)))
+    with_run (omega arith) (looking_more _ _ _ (low l.1) l.0 _ 0 (omega arith) (λ j h. d.0.clear j (among _ _ _ h c.if-at-start.true)))
 
 pub returns-then-bits-n : goal.returns-then-bits-n
 returns-then-bits-n c =
@@ -239,10 +248,10 @@ returns-then-bits-n c =
     let sum : c.loop-clear.looks + (c.clear_above-clear.result + 1) ≡ c.loop-clear.looks + c.clear_above-clear.result + 1 = omega arith in
     let k = rest_of _ (c.loop-clear.end - 1) c.clear_above-clear.result (low l.1) (omega arith) in
     let next = sought_next _ _ _ k.0 (looking_more _ _ _ (low l.1) l.0 _ _ k.1 d.0.clear) d.1 _ refl in
-    rw sum (none _ _ _ c.requires.0 next (over _ _ _ (omega arith)))
+    rw sum (with_none c.requires.0 next (over _ _ _ (omega arith)))
 
 pub returns-then-end-start : goal.returns-then-end-start
 returns-then-end-start c =
     let l = c.loop-clear.invariant in
     let d = all_down _ _ (sym c.digits_down-digits.ensures ∙ c.if-digits-ne0.false) in
-    found _ _ _ (omega arith) (looking_more _ _ _ (low l.1) l.0 _ 0 (omega arith) (λ j h. d.clear j (omega arith)))
+    with_run (omega arith) (looking_more _ _ _ (low l.1) l.0 _ 0 (omega arith) (λ j h. d.clear j (omega arith)))

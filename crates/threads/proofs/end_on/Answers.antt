@@ -1,18 +1,21 @@
 -- `threads::end_on` meets its contract. Assumes nothing.
-use mathlib.Core.Path.{sym, ◌∙◌}
+use Rattle.std.proofs.Common.{rules, ◌≡◌, refl, sym}
+use Rattle.layout.specs.Answer.{answer_of, number_of, number_some, refused}
 use Rattle.model.proofs.Accepted.{end_ok}
 use Rattle.tables.proofs.AnsweredLaws.{changed_refused}
 use Rattle.threads.specs.Thread.{ended_on}
 use Rattle.threads.proofs.end_on.Goals as goal
 
+pub returns-in_err-check_end : goal.returns-in_err-check_end
+returns-in_err-check_end c =
+    let e = c.in_err-check_end in
+    let q : answer_of c.from_residual.result ≡ refused (number_of e.field-0.0) = search rules in
+    rw q (changed_refused _ _ _ c.requires e.ensures (number_some e.field-0.0))
+
 pub put_kind-requires : goal.put_kind-requires
-put_kind-requires c =
-    (c.requires.sized, (end_ok _ _ (sym c.check_end-refusal.ensures ∙ c.if-refusal-eq0.true)).called.thread)
+put_kind-requires c = (c.requires.sized, (end_ok _ _ (sym c.in_ok-check_end.ensures)).called.thread)
 
-pub returns-then-refusal-eq0 : goal.returns-then-refusal-eq0
-returns-then-refusal-eq0 c =
+pub returns : goal.returns
+returns c =
     let a = c.args in
-    ended_on a.words.now a.bytes.now c.requires a.t c.check_end-refusal.ensures c.if-refusal-eq0.true c.put_kind.ensures
-
-pub returns-else-refusal-eq0 : goal.returns-else-refusal-eq0
-returns-else-refusal-eq0 c = changed_refused _ _ _ c.requires c.check_end-refusal.ensures c.if-refusal-eq0.false
+    ended_on a.words.now a.bytes.now c.requires a.t c.in_ok-check_end.ensures refl c.put_kind.ensures

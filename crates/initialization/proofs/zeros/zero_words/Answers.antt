@@ -9,12 +9,12 @@ use Rattle.initialization.proofs.zeros.zero_words.Goals as goal
 pub returns-then-n-ge4 : goal.returns-then-n-ge4
 returns-then-n-ge4 c =
     let a = c.args in
-    c.zero_four-then-n-ge4.ensures ∙ rw c.zero_four.ensures (filled_both_ends a.store.now a.from 0 a.n 4 (omega arith) (omega arith))
+    c.zero_run-then-n-ge4-2.ensures ∙ rw c.zero_run-then-n-ge4.ensures (filled_both_ends a.store.now a.from 0 a.n 4 (omega arith) (omega arith))
 
 pub returns-then-n-ge2 : goal.returns-then-n-ge2
 returns-then-n-ge2 c =
     let a = c.args in
-    c.zero_two-then-n-ge2.ensures ∙ rw c.zero_two.ensures (filled_both_ends a.store.now a.from 0 a.n 2 (omega arith) (omega arith))
+    c.zero_run-then-n-ge2-2.ensures ∙ rw c.zero_run-then-n-ge2.ensures (filled_both_ends a.store.now a.from 0 a.n 2 (omega arith) (omega arith))
 
 pub returns : goal.returns
 unfolding filled

@@ -1,10 +1,10 @@
-use Prim.Native.Nat.{◌+◌, ◌≤◌}
-use lib.ListN.{length}
-use Rattle.lines.specs.AnswerLaws.{Lowest}
+-- The invariant: each digit so far is that of its place, and the shift is that of the next place.
+use Rattle.std.proofs.Common.{◌≡◌, ◌+◌, ◌*◌, length}
+use Rattle.lines.specs.AnswerLaws.{Written}
 use Rattle.lines.proofs.answer.write_digits.Given as goal
 
-abbrev pub invariant-loop-i : goal.invariant-loop-i
-invariant-loop-i l = (l.at + l.n ≤ length l.initial.output) × Lowest l.initial.output l.at l.v l.n l.rest l.i l.output
-
-abbrev pub decreases-loop-i : goal.decreases-loop-i
-decreases-loop-i l = l.i
+abbrev pub invariant-loop-digit : goal.invariant-loop-digit
+invariant-loop-digit l = record {
+  shifted : l.shift + 4 * l.digit-index ≡ 4 * length l.fn.digits;
+  written : Written l.digits l.v (length l.fn.digits) l.digit-index;
+}

@@ -1,11 +1,7 @@
-use mathlib.Core.Path.{◌≡◌}
-use Prim.Native.Nat.{◌-◌, ◌≤◌}
-use Rattle.lines.specs.Hexadecimal.{field_of}
-use Rattle.lines.specs.Hexadecimal.{Digits}
+-- The invariant: the value is that of the digits passed.
+use Rattle.std.proofs.Common.{◌≡◌, take}
+use Rattle.lines.specs.Hexadecimal.{number_from}
 use Rattle.lines.proofs.digit.field.Given as goal
 
-abbrev pub invariant-loop-i : goal.invariant-loop-i
-invariant-loop-i l = (l.i ≤ l.n) × (l.value ≡ field_of l.line l.at l.i) × Digits l.line l.at l.n
-
-abbrev pub decreases-loop-i : goal.decreases-loop-i
-decreases-loop-i l = l.n - l.i
+abbrev pub invariant-loop-b : goal.invariant-loop-b
+invariant-loop-b l = l.value ≡ number_from 0 (take l.b-index l.digits)

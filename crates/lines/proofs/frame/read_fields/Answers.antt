@@ -1,9 +1,10 @@
--- `read_fields` meets its contract.
-use mathlib.Core.Path.{refl}
-use Rattle.lines.specs.Frames.{fields_of}
+-- `read_fields` meets its contract: each field is digits.
+use Rattle.std.proofs.Common.{arith}
+use Rattle.lines.specs.HexadecimalLaws.{digits_part}
 use Rattle.lines.proofs.frame.read_fields.Goals as goal
 
-pub returns : goal.returns
-unfolding fields_of
-returns c =
-    rw (c.field.ensures, c.field-2.ensures, c.field-3.ensures, c.field-4.ensures) refl
+pub field-requires-2 : goal.field-requires-2
+field-requires-2 c = digits_part 4 16 _ (omega arith) c.requires
+
+pub field-requires-4 : goal.field-requires-4
+field-requires-4 c = digits_part 24 16 _ (omega arith) c.requires

@@ -1,2 +1,0 @@
--- How much of the input was read.
-pub mod Counts
