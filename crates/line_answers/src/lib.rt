@@ -2,10 +2,11 @@
 #![tactic(auto)]
 
 ghost use Rattle.std.specs.Prelude.{◌≡◌, ◌+◌, ◌≤◌, length};
+ghost use Rattle.layout.specs.Answer.{answer_of};
 ghost use Rattle.tables.specs.Contract.{Ready};
 ghost use Rattle.line_answers.specs.Answered.{core, LineAnswered, Ended};
 
-use layout::answer::Answer;
+use layout::answer::{Answer, Refusal};
 use lines::line::Line;
 use tables::{Bytes, Words};
 
@@ -18,18 +19,15 @@ fn answer_line(
     map: &mut [u64],
     written: &mut [u64],
     line: &Line,
-) -> Answer
+) -> Result<u64, Refusal>
     requires { Ready words.old bytes.old }
     ensures { LineAnswered
         (core words.old bytes.old permanent.old scratch.old map.old written.old)
         (core words.new bytes.new permanent.new scratch.new map.new written.new)
-        line.now result }
+        line.now (answer_of result) }
 {
     let Some(f) = line.parse() else {
-        return Answer {
-            status: 18,
-            value: 0,
-        };
+        return Err(Refusal::NoFrame);
     };
     scopes::carry_out(
         words, bytes, permanent, scratch, map, written, f.op, f.thread, f.p, f.q, f.r,
@@ -54,6 +52,7 @@ pub fn end_line(
         (core words.new bytes.new permanent.new scratch.new map.new written.new)
         line.now output.old at output.new }
 {
-    let a = answer_line(words, bytes, permanent, scratch, map, written, line);
+    let result = answer_line(words, bytes, permanent, scratch, map, written, line);
+    let a = Answer::from(result);
     lines::answer::write_answer(output, at, a.status, a.value);
 }

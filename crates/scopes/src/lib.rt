@@ -1,10 +1,11 @@
 // The core: a call of any op, carried out in place on the tables and the buffers that are lent.
 #![tactic(auto)]
 
+ghost use Rattle.layout.specs.Answer.{answer_of};
 ghost use Rattle.model.specs.Ops.{call_of};
 ghost use Rattle.tables.specs.Contract.{Answers, Ready, memory_of};
 
-use layout::answer::Answer;
+use layout::answer::Refusal;
 use model::Op;
 use tables::{Buffers, Bytes, Words};
 
@@ -21,13 +22,13 @@ pub fn carry_out(
     p: u64,
     q: u64,
     r: u64,
-) -> Answer
+) -> Result<u64, Refusal>
     requires { Ready words.old bytes.old }
-    ensures { Answers result (call_of op t p q r)
+    ensures { Answers (answer_of result) (call_of op t p q r)
         words.old bytes.old (memory_of permanent.old scratch.old map.old written.old)
         words.new bytes.new (memory_of permanent.new scratch.new map.new written.new) }
 {
-    let result = match op {
+    match op {
         Op::State(o) => {
             let buffers = Buffers::of(permanent, scratch, map, written);
             state_ops::carry_state(words, bytes, &buffers, o, t, p, q, r)
@@ -39,6 +40,5 @@ pub fn carry_out(
             let buffers = Buffers::of(permanent, scratch, map, written);
             question_ops::carry_question(words, bytes, &buffers, o, t, p, q, r)
         }
-    };
-    result.into()
+    }
 }
