@@ -1,42 +1,34 @@
 // Op 06: an object is allocated in the current area of a thread.
 #![tactic(auto)]
 
-ghost use Rattle.std.specs.Prelude.{◌≡◌, ◌≤◌, min};
+ghost use Rattle.std.specs.Prelude.{◌≡◌, ◌≤◌};
+ghost use Rattle.layout.specs.Answer.{answer_of, status_of};
 ghost use Rattle.model.specs.Calls as calls;
 ghost use Rattle.tables.specs.Contract.{Answers, Ready, memory_of};
 ghost use Rattle.allocation.specs.Allocation.{area_rest, HasRoom, Lent, ObjectMade};
 ghost use Rattle.tables.specs.Decode.{state_of};
 
-use layout::answer::Answer;
+use layout::answer::Refusal;
 use layout::handle;
 use model::Area;
 use rights::Right;
-use tables::{Bytes, Words};
-
-fn smaller(a: u64, b: u64) -> u64
-    ensures { result ≡ min a b }
-{
-    if a < b {
-        return a;
-    }
-    b
-}
+use tables::{Buffers, Bytes, Words};
 
 // Refusals 5 and 12, by whether the thread may allocate in the area, and by the area's record. No sum of
 // the fields is taken, so none can wrap: what the slots leave of the room, if anything, is to hold the
 // header and the data.
-fn check_area(may: bool, x: Area, slots: u64, data_words: u64) -> u64
+fn check_area(may: bool, x: Area, slots: u64, data_words: u64) -> Result<(), Refusal>
     requires { x.used ≤ x.size }
-    ensures { result ≡ area_rest may x slots data_words }
+    ensures { status_of result ≡ area_rest may x slots data_words }
 {
     let room = x.size - x.used;
     if !may {
-        return 5;
+        return Err(Refusal::Right);
     }
-    if room - smaller(slots, room) <= data_words {
-        return 12;
+    if room - slots.min(room) <= data_words {
+        return Err(Refusal::Room);
     }
-    0
+    Ok(())
 }
 
 // The effect of an accepted call, in area `area`, whose record is x: its used words, the object's words and
@@ -62,16 +54,7 @@ fn apply_allocate(
         area slots data_words }
 {
     let used = x.used + 1 + slots + data_words;
-    let next = Area {
-        start: x.start,
-        size: x.size,
-        used,
-        generation: x.generation,
-        count: x.count,
-        parent: x.parent,
-        depth: x.depth,
-    };
-    held_areas::put_area(words, area as usize, next);
+    held_areas::put_area(words, area as usize, Area { used, ..x });
     let at = (x.start + x.used) as usize;
     let bit = stores::bit_index(permanent.len(), area, at);
     initialization::put_object(permanent, scratch, area, at, slots, data_words);
@@ -93,31 +76,25 @@ pub fn allocate(
     t: u64,
     slots: u64,
     data_words: u64,
-) -> Answer
+) -> Result<u64, Refusal>
     requires { Ready words.old bytes.now }
-    ensures { Answers result (calls.allocate t slots data_words)
+    ensures { Answers (answer_of result) (calls.allocate t slots data_words)
         words.old bytes.now (memory_of permanent.old scratch.old map.old written.old)
         words.new bytes.now (memory_of permanent.new scratch.new map.new written.new) }
 {
-    let status = callers::check_caller(words, bytes, permanent, scratch, map, written, t);
-    if status != 0 {
-        return Answer { status, value: 0 };
-    }
+    let buffers = Buffers {
+        permanent,
+        scratch,
+        map,
+        written,
+    };
+    callers::check_caller(words, bytes, &buffers, t)?;
     let area = callers::top_entry(words, bytes, t as usize).area as u64;
     let may = callers::has_right(words, bytes, t as usize, Right::Allocate, area);
     let x = held_areas::area_at(words, area as usize);
-    let refusal = check_area(may, x, slots, data_words);
-    if refusal != 0 {
-        return Answer {
-            status: refusal,
-            value: 0,
-        };
-    }
+    check_area(may, x, slots, data_words)?;
     let made = apply_allocate(
         words, bytes, permanent, scratch, map, written, area, x, slots, data_words,
     );
-    Answer {
-        status: 0,
-        value: made,
-    }
+    Ok(made)
 }

@@ -2,6 +2,8 @@
 -- Assumes nothing.
 use Rattle.std.specs.Prelude.{ℕ, ◌+◌, ◌*◌, ◌≤◌, ◌<◌, ◌≡◌, refl, true, false, List, [], ◌∷◌, ◌++◌, leb, length, take}
 use Rattle.std.proofs.Common.{arith, sym, subst, true≢false, append_assoc, append-nil, leb-true, leb-false, length-append, length-take-le}
+use Rattle.lines.specs.declared.line.Line.{Line}
+use Rattle.lines.specs.Lines.{Buffered, emptied}
 use Rattle.line_answers.specs.Output.{first_world}
 use Rattle.reader.specs.Feeding.{joined}
 use Rattle.line_answers.specs.Answered.{Core, Represents}
@@ -53,28 +55,28 @@ spent_more cs w c t a b s h (spent p) (unread r z) (wrote e) = failed (omega (ar
 spent_more cs w c t a b s h (spent p) r (unwritten e) = failed e
 spent_more cs w c t a b s h (failed p) r e = absurd (omega (arith, h, p))
 
-fed_more : {k k₁ k₂ : Core} {line line₁ line₂ : List ℕ} {len len₁ len₂ : ℕ} {chunks : List (List ℕ)} {written chunk out out₁ : List ℕ} {n : ℕ}
-    → FedChunks k line len chunks written k₁ line₁ len₁
+fed_more : {k k₁ k₂ : Core} {line line₁ line₂ : Line} {chunks : List (List ℕ)} {written chunk out out₁ : List ℕ} {n : ℕ}
+    → FedChunks k line chunks written k₁ line₁
     → 19 * length chunk ≤ length out
-    → Feeds (held k₁ line₁ len₁ out 0) (held k₂ line₂ len₂ out₁ n) chunk
-    → FedChunks k line len (chunks ++ (chunk ∷ [])) (written ++ take n out₁) k₂ line₂ len₂
+    → Feeds (held k₁ line₁ out 0) (held k₂ line₂ out₁ n) chunk
+    → FedChunks k line (chunks ++ (chunk ∷ [])) (written ++ take n out₁) k₂ line₂
 fed_more {out₁ = out₁} {n = n} none r f = rw (sym (append-nil (take n out₁))) (more r f none)
 fed_more {out₁ = out₁} {n = n} (more {out₁ = o} {n = m} {written = w} r' f' d) r f =
     rw (append_assoc (take m o) w (take n out₁)) (more r' f' (fed_more d r f))
 
-pub progress_none : (k : Core) (line c : List ℕ) → Progress k line k line 0 c all_steps
+pub progress_none : (k : Core) (line : Line) (c : List ℕ) → Progress k line k line c all_steps
 unfolding joined
 progress_none k line c = record { chunks = []; written = []; fed = none; last = no_chunk; steps_are = spent refl }
 
-pub progress_more : {k₀ k k₁ : Core} {line₀ line line₁ : List ℕ} {len len₁ n a b s w : ℕ} {before chunk out out₁ : List ℕ}
-    → Progress k₀ line₀ k line len before a
+pub progress_more : {k₀ k k₁ : Core} {line₀ line line₁ : Line} {n a b s w : ℕ} {before chunk out out₁ : List ℕ}
+    → Progress k₀ line₀ k line before a
     → reserve ≤ a
     → Read a b n
     → n ≡ length chunk
     → 19 * length chunk ≤ length out
-    → Feeds (held k line len out 0) (held k₁ line₁ len₁ out₁ w) chunk
+    → Feeds (held k line out 0) (held k₁ line₁ out₁ w) chunk
     → Wrote b s w
-    → Progress k₀ line₀ k₁ line₁ len₁ chunk s
+    → Progress k₀ line₀ k₁ line₁ chunk s
 progress_more {a = a} {b = b} {s = s} {w = w} {chunk = chunk} {out₁ = out₁} p h r e m f v =
     let z : w ≡ length (take w out₁) = sym (length-take-le w out₁ (omega (arith, f.room, f.long, m))) in
     record {
@@ -87,17 +89,16 @@ progress_more {a = a} {b = b} {s = s} {w = w} {chunk = chunk} {out₁ = out₁} 
 
 -- ---- the end of a run
 
-pub ran_failed : {k₀ k₁ : Core} {line₀ line₁ input out₁ : List ℕ} {len₁ n kept : ℕ}
-    → Represents k₀ first_world → length line₀ ≡ 40 → Progress k₀ line₀ k₁ line₁ len₁ (take n input) kept → Stopped n kept → 19 ≤ length out₁ → kept ≡ 0
+pub ran_failed : {k₀ k₁ : Core} {line₀ line₁ : Line} {input out₁ : List ℕ} {n kept : ℕ}
+    → Represents k₀ first_world → Buffered line₀ [] → Progress k₀ line₀ k₁ line₁ (take n input) kept → Stopped n kept → 19 ≤ length out₁ → kept ≡ 0
     → Ran k₀ k₁ input out₁ (record { n = n; kept = kept; left = 0; sent = 0 })
 ran_failed {out₁ = out₁} f z p s m e = record {
   line₀ = _;
   k₁ = _;
   line₁ = _;
-  len₁ = _;
   out₁ = out₁;
   first = f;
-  sized = z;
+  empty = z;
   rounds = p;
   stopped = s;
   room = m;
@@ -105,18 +106,17 @@ ran_failed {out₁ = out₁} f z p s m e = record {
   fails = λ _. (refl, refl, refl);
 }
 
-pub ran_whole : {k₀ k₁ k₂ : Core} {line₀ line₁ input out₁ out₂ : List ℕ} {len₁ n kept left sent : ℕ}
-    → Represents k₀ first_world → length line₀ ≡ 40 → Progress k₀ line₀ k₁ line₁ len₁ (take n input) kept → Stopped n kept → 19 ≤ length out₁ → (kept ≡ 0 → ⊥)
-    → Finishes (held k₁ line₁ len₁ out₁ 0) (held k₂ line₁ 0 out₂ sent) → Wrote kept left sent
+pub ran_whole : {k₀ k₁ k₂ : Core} {line₀ line₁ : Line} {input out₁ out₂ : List ℕ} {n kept left sent : ℕ}
+    → Represents k₀ first_world → Buffered line₀ [] → Progress k₀ line₀ k₁ line₁ (take n input) kept → Stopped n kept → 19 ≤ length out₁ → (kept ≡ 0 → ⊥)
+    → Finishes (held k₁ line₁ out₁ 0) (held k₂ (emptied line₁) out₂ sent) → Wrote kept left sent
     → Ran k₀ k₂ input out₂ (record { n = n; kept = kept; left = left; sent = sent })
 ran_whole {out₁ = out₁} f z p s m e g w = record {
   line₀ = _;
   k₁ = _;
   line₁ = _;
-  len₁ = _;
   out₁ = out₁;
   first = f;
-  sized = z;
+  empty = z;
   rounds = p;
   stopped = s;
   room = m;

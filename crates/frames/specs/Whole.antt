@@ -3,7 +3,6 @@
 use Rattle.std.specs.Prelude.{ℕ, ◌≡◌, List, [], ◌++◌, take}
 use Rattle.std.proofs.Common.{subst, append-nil}
 use Rattle.model.specs.Run.{run}
-use Rattle.lines.specs.LineLaws.{buffered_none}
 use Rattle.line_answers.specs.Output.{first_world, lines_of, output_of}
 use Rattle.reader.specs.Feeding.{Feeding, fed, finished, joined, fed_chunks}
 use Rattle.line_answers.specs.Answered.{Core, Represents}
@@ -27,16 +26,16 @@ module _ {k₀ k₂ : Core} {input out₂ : List ℕ} {e : Ended} (r : Ran k₀ 
   reached = fed first_world [] received
 
   -- after the rounds the core, what was written and the line so far are those of feeding the chunks
-  after_rounds : After r.k₁ r.line₁ r.len₁ r.rounds.written reached
+  after_rounds : After r.k₁ r.line₁ r.rounds.written reached
   after_rounds =
-      subst (After r.k₁ r.line₁ r.len₁ r.rounds.written) (fed_chunks r.rounds.chunks first_world [])
-      (fed_after first_world [] r.rounds.fed r.first (buffered_none r.line₀ r.sized))
+      subst (After r.k₁ r.line₁ r.rounds.written) (fed_chunks r.rounds.chunks first_world [])
+      (fed_after first_world [] r.rounds.fed r.first r.empty)
 
   -- ---- where nothing failed
 
   -- what was handed to write is the answers to the lines of what was received
   pub ran_output : (e.kept ≡ 0 → ⊥) → handed ≡ output_of received
-  ran_output p = program r.first r.sized r.rounds.fed r.room (r.finishes p).0
+  ran_output p = program r.first r.empty r.rounds.fed r.room (r.finishes p).0
 
   -- and the core stands in the world after them
   pub ran_represents : (e.kept ≡ 0 → ⊥) → Represents k₂ (finished reached.world reached.line).world
@@ -44,7 +43,7 @@ module _ {k₀ k₂ : Core} {input out₂ : List ℕ} {e : Ended} (r : Ran k₀ 
 
   -- so every claim of the list theorem holds of it, with the lines of the calls of all frames
   pub ran_claims : (e.kept ≡ 0 → ⊥) → CoreClaims k₂ (run first_world (elements_of (lines_of [] received)))
-  ran_claims p = program_claims r.first r.sized r.rounds.fed (r.finishes p).0
+  ran_claims p = program_claims r.first r.empty r.rounds.fed (r.finishes p).0
 
   -- ---- where a read or a write failed: nothing was answered after it, not even the line so far
 
@@ -55,4 +54,4 @@ module _ {k₀ k₂ : Core} {input out₂ : List ℕ} {e : Ended} (r : Ran k₀ 
   failed_represents z = rw (r.fails z).0 after_rounds.represents
 
   pub failed_claims : e.kept ≡ 0 → CoreClaims k₂ reached.world
-  failed_claims z = rw (r.fails z).0 (chunks_claims r.first r.sized r.rounds.fed)
+  failed_claims z = rw (r.fails z).0 (chunks_claims r.first r.empty r.rounds.fed)

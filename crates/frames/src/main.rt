@@ -8,7 +8,7 @@
 // on (`specs/Whole.antt`).
 //
 // What is not proved, and has to be read: the bodies of the functions that call the system, as is
-// said in `rounds`; and that no function here changes `steps` or the input, but by the calls of
+// said in `rounds` and `console`; and that no function here changes `steps` or the input, but by the calls of
 // `rounds`. None but `main` can call the system by itself: only it is given the runtime, and the
 // `Streams` that the others are given are used by `rounds` alone (docs/DECISIONS.md, 51).
 #![tactic(auto)]
@@ -19,6 +19,7 @@ ghost use Rattle.line_answers.specs.Output.{first_world};
 ghost use Rattle.line_answers.specs.Answered.{core, Represents};
 ghost use Rattle.frames.specs.Progress.{Continues, Ran};
 
+use lines::line::Line;
 use rounds::{Output, Streams};
 use tables::{Bytes, Words};
 
@@ -62,18 +63,25 @@ fn answer_all(
         (core words.new bytes.new permanent.new scratch.new map.new written.new)
         input.new output.new result }
 {
-    let mut line = [0u8; 40];
-    let mut len = 0;
+    let mut line = Line::new();
     let mut n = 1;
     let mut steps = usize::MAX;
     let mut more = true;
     while more {
         n = rounds::read_chunk(streams, input, &mut steps);
-        let fed = rounds::answer_chunk(
-            streams, words, bytes, permanent, scratch, map, written, &mut line, len, input, n,
-            output, &mut steps,
+        rounds::answer_chunk(
+            streams,
+            words,
+            bytes,
+            permanent,
+            scratch,
+            map,
+            written,
+            &mut line,
+            &input[..n],
+            output,
+            &mut steps,
         );
-        len = fed.len;
         more = goes_on(n, steps);
     }
     let kept = steps;
@@ -86,7 +94,7 @@ fn answer_all(
         };
     }
     let sent = rounds::answer_rest(
-        streams, words, bytes, permanent, scratch, map, written, &line, len, output, &mut steps,
+        streams, words, bytes, permanent, scratch, map, written, &line, output, &mut steps,
     );
     Ended {
         n,
@@ -96,56 +104,32 @@ fn answer_all(
     }
 }
 
-// A chunk of the input, and room for an answer to each byte of it. The `ensures` give only the
-// lengths.
-fn input_buffer() -> [u8; 16384]
-    ensures { length result ≡ 16384 }
+// Room for bytes. The `ensures` gives only how much.
+fn room<const N: usize>() -> [u8; N]
+    ensures { length result ≡ N }
 {
-    [0; 16384]
+    [0; N]
 }
 
-fn output_buffer() -> Output
-    ensures { length result ≡ 311296 }
+// A buffer of the lent memory, which holds zeros at first.
+fn zeros<const N: usize>() -> [u64; N]
+    ensures { result ≡ replicate N 0 }
 {
-    [0; 311296]
-}
-
-// The lent memory, which holds zeros at first.
-fn permanent_store() -> [u64; 2048]
-    ensures { result ≡ replicate 2048 0 }
-{
-    [0; 2048]
-}
-
-fn scratch_store() -> [u64; 4096]
-    ensures { result ≡ replicate 4096 0 }
-{
-    [0; 4096]
-}
-
-fn start_map() -> [u64; 96]
-    ensures { result ≡ replicate 96 0 }
-{
-    [0; 96]
-}
-
-fn written_map() -> [u64; 96]
-    ensures { result ≡ replicate 96 0 }
-{
-    [0; 96]
+    [0; N]
 }
 
 // The whole run, over buffers of its own.
 fn run(streams: Streams) {
-    let mut permanent = permanent_store();
-    let mut scratch = scratch_store();
-    let mut map = start_map();
-    let mut written = written_map();
+    let mut permanent = zeros::<2048>();
+    let mut scratch = zeros::<4096>();
+    let mut map = zeros::<96>();
+    let mut written = zeros::<96>();
     let begun = setup::set_up(&permanent, &scratch, &map, &written, 1024, 1024);
     let mut words = begun.words;
     let mut bytes = begun.bytes;
-    let mut input = input_buffer();
-    let mut output = output_buffer();
+    // A chunk of the input, and room for an answer to each byte of it.
+    let mut input = room::<16384>();
+    let mut output: Output = room();
     answer_all(
         streams,
         &mut words,
@@ -160,7 +144,9 @@ fn run(streams: Streams) {
 }
 
 fn main(rt: HostRuntime) {
-    if !rounds::refuses_arguments(rt) {
+    let message =
+        "frames: it takes no arguments; frames are read from standard input (README.md, Frames)";
+    if !console::refuses_arguments(rt, message) {
         run(Streams::of(rt));
     }
 }

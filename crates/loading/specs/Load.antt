@@ -1,11 +1,14 @@
 -- The load of a rights table: its loops, one law for each way that its checks end, and what it leaves.
 -- Assumes nothing.
-use Rattle.std.specs.Prelude.{ℕ, ◌+◌, ◌*◌, ◌<◌, Bool, true, false, ◌&&◌, ◌||◌, List, ◌≢◌, ◌≡◌, eqb, ltb, length, get_or}
+use Rattle.std.specs.Prelude.{ℕ, zero, suc, ◌+◌, ◌*◌, ◌<◌, Bool, true, false, ◌&&◌, ◌||◌, List, ◌≢◌, ◌≡◌, eqb, ltb, length, get_or, MatchBool}
 use Rattle.std.proofs.Math.Bool.{not}
-use Rattle.std.proofs.Math.Path.{refl, sym, ap}
-use Rattle.std.proofs.Common.{◌∙◌, eq-eqb, ne_eqb}
-use Rattle.layout.specs.Choice.{hit, skip}
-use Rattle.layout.specs.Below.{all_below, some_below, all_more, some_more}
+use Rattle.std.proofs.Math.Path.{refl, sym, ap, subst}
+use Rattle.std.proofs.Common.{◌∙◌, arith, eq-eqb, ne_eqb, eqb-true, true≢false}
+use Rattle.std.proofs.lemmas.Bool.{eqb-false}
+use Rattle.std.proofs.lemmas.List.FromFn.{length-range_with_len, get_or-range_with_len}
+use Rattle.std.specs.List.{AllWithin, HoldsAt, range_with_len}
+use Rattle.layout.specs.Choice.{cases, hit, skip}
+use Rattle.layout.specs.Below.{all_below, some_below, all_more, some_more, all_each, each_all}
 use Rattle.rights.specs.Rights.{digit0, digit1, table_size, is_binary, only_binary, allocator_uses, allocators_use, is_table, Loadable}
 use Rattle.model.specs.State.{State, Memory}
 use Rattle.model.specs.Checks.{is_started}
@@ -19,7 +22,64 @@ use Rattle.tables.proofs.Laws.{kind_read, state_rights}
 use Rattle.tables.specs.Contract.{Ready, plain, Answered}
 use Rattle.tables.proofs.AnsweredLaws.{changed_refused, changed_accepted, unsupplied_answered}
 
--- ---- the loops, one turn further
+some_here : (f : ℕ → Bool) (n k : ℕ) → k < n → f k ≡ true → some_below f n ≡ true
+unfolding some_below
+some_here f zero k l e = absurd (omega arith)
+some_here f (suc n) k l e = cases (eqb k n)
+    (λ q. rw (← eqb-true k n q, e) (or_yes (some_below f k)))
+    (λ q. let ne : k ≡ n → ⊥ = eqb-false k n q in rw (some_here f n k (omega arith) e) refl)
+  where
+    or_yes : (b : Bool) → b || true ≡ true
+    or_yes true = refl
+    or_yes false = refl
+
+none_here : (f : ℕ → Bool) (n : ℕ) → ((k : ℕ) → k < n → f k ≡ false) → some_below f n ≡ false
+unfolding some_below
+none_here f zero h = refl
+none_here f (suc n) h = rw (none_here f n (λ k l. h k (omega arith)), h n (omega arith)) refl
+
+-- tests that agree
+some_same : (f g : ℕ → Bool) (n : ℕ) → ((k : ℕ) → k < n → f k ≡ g k) → some_below f n ≡ some_below g n
+unfolding some_below
+some_same f g zero h = refl
+some_same f g (suc n) h = rw (some_same f g n (λ k l. h k (omega arith)), h n (omega arith)) refl
+
+-- ---- a walk over numbers that ends at the first that decides
+
+module _ (f : ℕ → Bool) (n : ℕ) where
+  -- whether f holds of all
+  pub all_told : (r : Bool) → MatchBool r ((k : ℕ) → k < n → f k ≡ true) ((k : ℕ) × (k < n) × (f k ≡ false)) → r ≡ all_below f n
+  all_told true h = sym (each_all f n h)
+  all_told false (k, l, e) = cases (all_below f n) (λ a. absurd (true≢false (sym (all_each f n a k l) ∙ e))) sym
+
+  -- or of some
+  pub any_told : (r : Bool) → MatchBool r ((k : ℕ) × (k < n) × (f k ≡ true)) ((k : ℕ) → k < n → f k ≡ false) → r ≡ some_below f n
+  any_told true (k, l, e) = sym (some_here f n k l e)
+  any_told false h = sym (none_here f n h)
+
+  -- the same of a walk over a range
+  at : (k : ℕ) → k < n → get_or (range_with_len 0 n) k 0 ≡ k
+  at k l = omega (arith, get_or-range_with_len 0 n k 0 l)
+
+  pub all_in_range : (r : Bool)
+      → MatchBool r (AllWithin (λ (k : ℕ). f k ≡ true) (range_with_len 0 n) 0 (length (range_with_len 0 n)))
+      ((k : ℕ) × (k < length (range_with_len 0 n)) × HoldsAt (λ (j : ℕ). f j ≡ false) (range_with_len 0 n) k)
+      → r ≡ all_below f n
+  all_in_range true h = all_told true (λ k l. subst (λ (j : ℕ). f j ≡ true) (at k l) (h k 0 (omega arith) (omega (arith, length-range_with_len 0 n, l))))
+  all_in_range false (k, l, e) =
+      let m : k < n = omega (arith, length-range_with_len 0 n, l) in
+      all_told false (k, m, subst (λ (j : ℕ). f j ≡ false) (at k m) (e 0))
+
+  pub any_in_range : (r : Bool)
+      → MatchBool r ((k : ℕ) × (k < length (range_with_len 0 n)) × HoldsAt (λ (j : ℕ). f j ≡ true) (range_with_len 0 n) k)
+      (AllWithin (λ (k : ℕ). f k ≡ false) (range_with_len 0 n) 0 (length (range_with_len 0 n)))
+      → r ≡ some_below f n
+  any_in_range true (k, l, e) =
+      let m : k < n = omega (arith, length-range_with_len 0 n, l) in
+      any_told true (k, m, subst (λ (j : ℕ). f j ≡ true) (at k m) (e 0))
+  any_in_range false h = any_told false (λ k l. subst (λ (j : ℕ). f j ≡ false) (at k l) (h k 0 (omega arith) (omega (arith, length-range_with_len 0 n, l))))
+
+-- ---- the tests, one number further
 
 module _ (text : List ℕ) where
   -- the digits so far are 0 or 1
@@ -38,6 +98,14 @@ module _ (text : List ℕ) where
   pub binary_all : {all : Bool} (i : ℕ) → i ≡ table_size → all ≡ binary_below i → all ≡ only_binary text
   unfolding only_binary
   binary_all i z e = e ∙ ap binary_below z
+
+  -- what the walk over the digits tells
+  pub binary_told : length text ≡ table_size → (r : Bool)
+      → MatchBool r (AllWithin (λ (c : ℕ). is_binary c ≡ true) text 0 (length text))
+      ((k : ℕ) × (k < length text) × HoldsAt (λ (c : ℕ). is_binary c ≡ false) text k)
+      → r ≡ only_binary text
+  binary_told e true h = binary_all table_size refl (all_told (λ (i : ℕ). is_binary (get_or text i 0)) table_size true (λ k l. h k 0 (omega arith) (omega (arith, e, l))))
+  binary_told e false (k, l, d) = binary_all table_size refl (all_told (λ (i : ℕ). is_binary (get_or text i 0)) table_size false (k, omega (arith, e, l), d 0))
 
   -- in the classes so far A stands only with U
   pub uses_none : true ≡ all_below (allocator_uses text) 0
@@ -66,6 +134,10 @@ module _ (w b : List ℕ) where
   pub started_all : (t : ℕ) {some : Bool} → t ≡ 16 → some ≡ some_below (is_started (state_of w b)) t → some ≡ any_started (state_of w b)
   unfolding any_started
   started_all t z e = e ∙ ap (some_below (is_started (state_of w b))) z
+
+  -- what the walk over the threads tells
+  pub started_told : (r : Bool) → r ≡ some_below (λ (t : ℕ). ltb 0 (thread_record w t).kind) 16 → r ≡ any_started (state_of w b)
+  started_told r e = started_all 16 refl (e ∙ some_same _ _ 16 (λ t l. ap (ltb 0) (sym (kind_read w b t l refl))))
 
 -- ---- the checks
 

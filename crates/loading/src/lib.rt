@@ -3,13 +3,14 @@
 #![tactic(auto)]
 
 ghost use Rattle.std.specs.Prelude.{◌≡◌, length};
+ghost use Rattle.layout.specs.Answer.{status_of, answer_of};
 ghost use Rattle.rights.specs.Rights.{table_size, only_binary, allocators_use, is_table};
 ghost use Rattle.model.specs.Configuration.{any_started, load_rights_status};
 ghost use Rattle.model.specs.Calls.{load_rights};
 ghost use Rattle.tables.specs.Contract.{AnswersAlone, Ready};
 ghost use Rattle.tables.specs.Decode.{state_of};
 
-use layout::answer::Answer;
+use layout::answer::Refusal;
 use tables::{Bytes, Words};
 
 // ---- what may be loaded
@@ -19,13 +20,7 @@ fn only_binary(text: &[u8]) -> bool
     requires { length text.now ≡ table_size }
     ensures { result ≡ only_binary text.now }
 {
-    let mut all = true;
-    let mut i = 0;
-    while i < 36 {
-        all = all & ((text[i] == b'0') | (text[i] == b'1'));
-        i += 1;
-    }
-    all
+    text.iter().all(|digit| *digit == b'0' || *digit == b'1')
 }
 
 // Whether in each of the nine groups of four digits A stands only with U.
@@ -33,13 +28,7 @@ fn allocators_use(text: &[u8]) -> bool
     requires { length text.now ≡ table_size }
     ensures { result ≡ allocators_use text.now }
 {
-    let mut all = true;
-    let mut g = 0;
-    while g < 9 {
-        all = all & ((text[g * 4 + 1] == b'0') | (text[g * 4 + 2] == b'1'));
-        g += 1;
-    }
-    all
+    (0..9).all(|g| text[g * 4 + 1] == b'0' || text[g * 4 + 2] == b'1')
 }
 
 fn is_table(text: &[u8]) -> bool
@@ -59,41 +48,29 @@ fn is_table(text: &[u8]) -> bool
 fn any_started(words: &Words, bytes: &Bytes) -> bool
     ensures { result ≡ any_started (state_of words.now bytes.now) }
 {
-    let mut some = false;
-    let mut t = 0;
-    while t < 16 {
-        some = some | (0 < held_threads::thread_at(words, t).kind);
-        t += 1;
-    }
-    some
+    (0..16).any(|t| 0 < held_threads::thread_at(words, t).kind)
 }
 
-// 23, then 24.
-fn check_load(words: &Words, bytes: &Bytes, text: &[u8]) -> u64
-    ensures { result ≡ load_rights_status (state_of words.now bytes.now) text.now }
+fn check_load(words: &Words, bytes: &Bytes, text: &[u8]) -> Result<(), Refusal>
+    ensures { status_of result ≡ load_rights_status (state_of words.now bytes.now) text.now }
 {
     if !is_table(text) {
-        return 23;
+        return Err(Refusal::Table);
     }
     if any_started(words, bytes) {
-        return 24;
+        return Err(Refusal::Running);
     }
-    0
+    Ok(())
 }
 
 // ---- the load
 
-pub fn load_rights(words: &Words, bytes: &mut Bytes, text: &[u8]) -> Answer
+pub fn load_rights(words: &Words, bytes: &mut Bytes, text: &[u8]) -> Result<u64, Refusal>
     requires { Ready words.now bytes.old }
-    ensures { AnswersAlone result (load_rights text.now) words.now bytes.old words.now bytes.new }
+    ensures { AnswersAlone (answer_of result) (load_rights text.now)
+        words.now bytes.old words.now bytes.new }
 {
-    let refusal = check_load(words, bytes, text);
-    if refusal == 0 {
-        held_rights::put_rights(bytes, text);
-    }
-    let value = 0; // none is named
-    Answer {
-        status: refusal,
-        value,
-    }
+    check_load(words, bytes, text)?;
+    held_rights::put_rights(bytes, text);
+    Ok(0)
 }

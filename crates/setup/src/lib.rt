@@ -3,15 +3,16 @@
 #![tactic(auto)]
 
 ghost use Rattle.std.specs.Prelude.{◌≡◌};
+ghost use Rattle.layout.specs.Answer.{status_of};
 ghost use Rattle.model.specs.SetUp.{set_up_status, set_up_state, standing};
 ghost use Rattle.tables.specs.Decode.{Holds};
 ghost use Rattle.setup.specs.First.{first_words, first_bytes, Begun};
-ghost use Rattle.tables.specs.Contract.{memory_of};
 
+use layout::answer::Refusal;
 use model::{Area, Lengths};
-use tables::{BYTES, Bytes, WORDS, Words};
+use tables::{BYTES, Buffers, Bytes, WORDS, Words};
 
-// The status, and the two tables that hold the state.
+// The status, and the two tables that hold the state: a record and no Result, since C is given it.
 #[repr(C)]
 #[derive(Clone, Copy)]
 pub struct SetUp {
@@ -35,31 +36,31 @@ fn standing_area(start: u64, size: u64) -> Area
     }
 }
 
-// 1 unless h + i is the permanent length, no store is longer than 16,384 words, the start map has a bit
+// Refused unless h + i is the permanent length, no store is longer than 16,384 words, the start map has a bit
 // for each word and no word more, and the written map, of k words, is as long. The sum is compared by a
 // difference, so that nothing wraps.
-fn check_set_up(h: u64, i: u64, n: Lengths, k: u64) -> u64
-    ensures { result ≡ set_up_status h i n k }
+fn check_set_up(h: u64, i: u64, n: Lengths, k: u64) -> Result<(), Refusal>
+    ensures { status_of result ≡ set_up_status h i n k }
 {
     if n.permanent < h {
-        return 1;
+        return Err(Refusal::Lengths);
     }
     if n.permanent - h != i {
-        return 1;
+        return Err(Refusal::Lengths);
     }
     if 16384 < n.permanent {
-        return 1;
+        return Err(Refusal::Lengths);
     }
     if 16384 < n.scratch {
-        return 1;
+        return Err(Refusal::Lengths);
     }
     if n.map != (n.permanent + n.scratch + 63) / 64 {
-        return 1;
+        return Err(Refusal::Lengths);
     }
     if k != n.map {
-        return 1;
+        return Err(Refusal::Lengths);
     }
-    0
+    Ok(())
 }
 
 // The words of the first state, whatever they were.
@@ -73,20 +74,26 @@ fn put_first_words(words: &mut Words, h: u64, i: u64, n: Lengths)
 }
 
 // The words of what set-up gives: of an accepted one, or of one with all lengths 0.
-fn put_set_up_words(words: &mut Words, status: u64, h: u64, i: u64, n: Lengths, k: u64)
-    requires { status ≡ set_up_status h i n k }
+fn put_set_up_words(
+    words: &mut Words,
+    checked: Result<(), Refusal>,
+    h: u64,
+    i: u64,
+    n: Lengths,
+    k: u64,
+)
+    requires { status_of checked ≡ set_up_status h i n k }
     ensures { Holds words.new first_bytes (set_up_state h i n k) }
 {
-    if status == 0 {
-        put_first_words(words, h, i, n);
-        return;
-    }
     let none = Lengths {
         permanent: 0,
         scratch: 0,
         map: 0,
     };
-    put_first_words(words, 0, 0, none);
+    match checked {
+        Ok(()) => put_first_words(words, h, i, n),
+        Err(_) => put_first_words(words, 0, 0, none),
+    }
 }
 
 // The bytes, whatever they were: no entry, no display, and the constant table of rights.
@@ -98,47 +105,39 @@ fn put_first_bytes(bytes: &mut Bytes)
     held_rights::put_rights(bytes, &table);
 }
 
-// Set-up in place: the tables are written, whatever they held. Yields the status.
+// Set-up in place: the tables are written, whatever they held.
 pub fn set_up_in_place(
     words: &mut Words,
     bytes: &mut Bytes,
-    permanent: &[u64],
-    scratch: &[u64],
-    map: &[u64],
-    written: &[u64],
+    buffers: &Buffers<'_>,
     h: u64,
     i: u64,
-) -> u64
-    ensures { Begun result words.new bytes.new h i (memory_of permanent.now scratch.now map.now written.now) }
+) -> Result<(), Refusal>
+    ensures { Begun (status_of result) words.new bytes.new h i buffers.now }
 {
     let n = Lengths {
-        permanent: permanent.len() as u64,
-        scratch: scratch.len() as u64,
-        map: map.len() as u64,
+        permanent: buffers.permanent.len() as u64,
+        scratch: buffers.scratch.len() as u64,
+        map: buffers.map.len() as u64,
     };
-    let k = written.len() as u64;
-    let status = check_set_up(h, i, n, k);
-    put_set_up_words(words, status, h, i, n, k);
+    let k = buffers.written.len() as u64;
+    let checked = check_set_up(h, i, n, k);
+    put_set_up_words(words, checked, h, i, n, k);
     put_first_bytes(bytes);
-    status
+    checked
 }
 
 // Set-up by value.
-pub fn set_up(
-    permanent: &[u64],
-    scratch: &[u64],
-    map: &[u64],
-    written: &[u64],
-    h: u64,
-    i: u64,
-) -> SetUp
-    ensures { Begun result.status result.words result.bytes h i (memory_of permanent.now scratch.now map.now written.now) }
+pub fn set_up(buffers: &Buffers<'_>, h: u64, i: u64) -> SetUp
+    ensures { Begun result.status result.words result.bytes h i buffers.now }
 {
     let mut words = [0u64; WORDS];
     let mut bytes = [0u8; BYTES];
-    let status = set_up_in_place(
-        &mut words, &mut bytes, permanent, scratch, map, written, h, i,
-    );
+    let begun = set_up_in_place(&mut words, &mut bytes, buffers, h, i);
+    let status = match begun {
+        Ok(()) => 0,
+        Err(refusal) => refusal.number(),
+    };
     SetUp {
         status,
         words,

@@ -1,13 +1,15 @@
 -- Laws of the shown part.
 -- Assumes nothing.
-use Rattle.std.specs.Prelude.{ℕ, ◌+◌, ◌-◌, ◌*◌, ◌≤◌, ◌<◌, Bool, List, eqb, length, take, drop}
+use Rattle.std.specs.Prelude.{ℕ, ◌+◌, ◌-◌, ◌*◌, ◌≤◌, ◌<◌, Bool, List, eqb, length, take, drop, Result, Ok, Err}
 use Rattle.std.proofs.Math.Bool.{true, false}
 use Rattle.std.proofs.Math.Path.{◌≡◌, refl, ap}
-use Rattle.std.proofs.Common.{sym, ◌∙◌}
+use Rattle.std.proofs.Common.{sym, subst, ◌∙◌}
 use Rattle.std.proofs.Math.Logic.{◌≢◌}
 use native.Mathlib.Omega.{arith}
 use Rattle.std.proofs.Math.Nat.{add-sub_cancel_left}
 use borrow.Author.Tests.{ne_eqb, eqb-true, eqb-false}
+use Rattle.layout.specs.declared.answer.Refusal.{Refusal}
+use Rattle.layout.specs.Answer.{Verdict, number_some}
 use Rattle.layout.specs.Choice.{pick, cases}
 use Rattle.layout.specs.Handle.{area_of}
 use Rattle.model.specs.State.{State, Memory, is_scope}
@@ -16,7 +18,7 @@ use Rattle.model.specs.References.{place_after}
 use Rattle.model.specs.Data.{data_index, view_refusal, view_words}
 use Rattle.model.specs.Invariant.{Good}
 use Rattle.model.proofs.Accepted.{admitted, use_ok}
-use Rattle.model.proofs.Outcomes.{unfit_fitted, fit_fitted}
+use Rattle.model.proofs.Outcomes.{fit_fitted}
 use Rattle.objects.specs.declared.find.Resolved.{Resolved}
 use Rattle.objects.specs.Found.{object_of}
 use Rattle.objects.proofs.Places.{Lies}
@@ -24,9 +26,6 @@ use Rattle.views.specs.declared.ViewPlace.{ViewPlace}
 use Rattle.objects.proofs.Statuses.{area_is, data_words_is}
 use Rattle.objects.specs.Fits.{fits_stores}
 use Rattle.objects.proofs.Effects.{place_is, index_is, object_lies}
-use Rattle.objects.specs.declared.check.Checked.{Checked}
-use Rattle.objects.specs.declared.check.Checked.TheVariants.{Passed, Refused}
-use Rattle.objects.specs.Checked.{checked_of, checked_passed, checked_refused}
 use Rattle.views.specs.PlacedView.{data_start, placed_in, view_store, view_from, view_length, view_place_of, PlacedAt, words_there}
 
 module _ (s : State) (m : Memory) (t p : ℕ) where
@@ -35,10 +34,6 @@ module _ (s : State) (m : Memory) (t p : ℕ) where
   pub place_refused : {n : ℕ} → n ≡ view_refusal s m t p → n ≢ 0 → record { status = n; store = 0; from = 0; len = 0 } ≡ view_place_of s m t p
   unfolding view_place_of view_store view_from view_length
   place_refused e h = rw (ne_eqb (view_refusal s m t p) 0 (λ z. h (e ∙ z)), ← e) refl
-
-  -- lent other lengths
-  pub refused_1 : fits s m ≡ false → 1 ≡ view_refusal s m t p
-  refused_1 u = sym (unfit_fitted s m u _)
 
   -- of an accepted one, with its object
   module _ (z : view_refusal s m t p ≡ 0) (o : Resolved) (e : o ≡ object_of s m p) where
@@ -57,19 +52,17 @@ module _ (s : State) (m : Memory) (t p : ℕ) where
         object_lies s m p o e g (fits_stores s m a.0.supplied) t (use_ok s m t p 0 a.1).0
 
   -- past 1, a check of the other refusals is one of all
-  pub past_1 : fits s m ≡ true → {c : Checked} → c ≡ checked_of (object_of s m p) (called s t (use_rest s m t p 0)) → c ≡ checked_of (object_of s m p) (view_refusal s m t p)
-  past_1 f e = e ∙ ap (checked_of (object_of s m p)) (sym (fit_fitted s m f _))
+  pub past_1 : fits s m ≡ true → (c : Result Resolved Refusal) → Verdict c (object_of s m p) (called s t (use_rest s m t p 0)) → Verdict c (object_of s m p) (view_refusal s m t p)
+  past_1 f c e = subst (Verdict c (object_of s m p)) (sym (fit_fitted s m f _)) e
 
   -- of what a check answers, in the store that has the words of the handle's area
-  pub view_placed : (c : Checked) (k : ℕ) → c ≡ checked_of (object_of s m p) (view_refusal s m t p) → k ≡ pick (is_scope (area_of p)) 1 0 → placed_in c k ≡ view_place_of s m t p
-  view_placed (Passed o) k e f =
-      let u = checked_passed (object_of s m p) e in
-      rw (f, ← area_is s m p o u.1) (place_accepted u.0 o u.1)
-  view_placed (Refused n) k e f = let u = checked_refused (object_of s m p) e in place_refused u.0 u.1
+  pub view_placed : (c : Result Resolved Refusal) (k : ℕ) → Verdict c (object_of s m p) (view_refusal s m t p) → k ≡ pick (is_scope (area_of p)) 1 0 → placed_in c k ≡ view_place_of s m t p
+  view_placed (Ok o) k e f = rw (f, ← area_is s m p o e.0) (place_accepted e.1 o e.0)
+  view_placed (Err r) k e f = place_refused e (number_some r)
 
-  pub start_low : (c : Checked) → c ≡ checked_of (object_of s m p) (view_refusal s m t p) → Good s → data_start c < 65536
-  start_low (Passed o) e g = let u = checked_passed (object_of s m p) e in omega (arith, (object_in u.0 o u.1 g).low)
-  start_low (Refused n) e g = omega arith
+  pub start_low : (c : Result Resolved Refusal) → Verdict c (object_of s m p) (view_refusal s m t p) → Good s → data_start c < 65536
+  start_low (Ok o) e g = omega (arith, (object_in e.1 o e.0 g).low)
+  start_low (Err r) e g = omega arith
 
   -- ---- the words there; store 0 is the permanent one, any other the scratch
 

@@ -1,6 +1,8 @@
 -- The shown part: which words of which store.
 -- Assumes nothing.
-use Rattle.std.specs.Prelude.{ℕ, ◌+◌, ◌*◌, List, ◌≡◌, eqb, take, drop}
+use Rattle.std.specs.Prelude.{ℕ, ◌+◌, ◌*◌, List, ◌≡◌, eqb, take, drop, Result, Ok, Err}
+use Rattle.layout.specs.declared.answer.Refusal.{Refusal}
+use Rattle.layout.specs.Answer.{number_of}
 use Rattle.layout.specs.Choice.{pick}
 use Rattle.layout.specs.Handle.{area_of}
 use Rattle.layout.specs.Header.{data_of}
@@ -9,8 +11,7 @@ use Rattle.model.specs.Checks.{header_at}
 use Rattle.model.specs.References.{place_after}
 use Rattle.model.specs.Data.{data_index, view_refusal}
 use Rattle.model.specs.Calls.{view, view_status}
-use Rattle.objects.specs.declared.check.Checked.{Checked}
-use Rattle.objects.specs.declared.check.Checked.TheVariants.{Passed, Refused}
+use Rattle.objects.specs.declared.find.Resolved.{Resolved}
 use Rattle.tables.specs.Contract.{plain, view_reply, Replies}
 use Rattle.views.specs.declared.ViewPlace.{ViewPlace}
 
@@ -37,14 +38,14 @@ view_place_of s m t p = record {
 }
 
 -- the place of what a check answers, in a store
-abbrev pub placed_in : Checked → ℕ → ViewPlace
-placed_in (Passed o) k = record { status = 0; store = k; from = o.at + 1 + o.slots; len = o.data_words }
-placed_in (Refused n) k = record { status = n; store = 0; from = 0; len = 0 }
+abbrev pub placed_in : Result Resolved Refusal → ℕ → ViewPlace
+placed_in (Ok o) k = record { status = 0; store = k; from = o.at + 1 + o.slots; len = o.data_words }
+placed_in (Err r) k = record { status = number_of r; store = 0; from = 0; len = 0 }
 
 -- where the data words of what it answers begin
-abbrev pub data_start : Checked → ℕ
-data_start (Passed o) = o.at + 1 + o.slots
-data_start (Refused n) = 0
+abbrev pub data_start : Result Resolved Refusal → ℕ
+data_start (Ok o) = o.at + 1 + o.slots
+data_start (Err r) = 0
 
 -- a part that begins there, from where the two stores begin: in "the permanent or scratch store itself", 8 bytes to a word
 pub record PlacedAt (slice permanent scratch : ℕ × ℕ) (s : State) (m : Memory) (t p : ℕ) : Type 0 where

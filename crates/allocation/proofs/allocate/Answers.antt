@@ -1,6 +1,10 @@
 -- `allocate` meets its contract: one law for each way that it ends.
 use mathlib.Core.Path.{◌≡◌, refl, sym, ap, ◌∙◌}
-use Prim.Native.Nat.{◌<◌}
+use Prim.Native.Nat.{ℕ, ◌<◌}
+use native.Mathlib.Omega.{arith}
+use borrow.Author.Rules.{rules}
+use Rattle.std.specs.Prelude.{Err}
+use Rattle.layout.specs.Answer.{number_some}
 use Rattle.model.specs.State.{State, Memory, area_at}
 use Rattle.model.specs.Objects.{current_at}
 use Rattle.model.specs.Calls as calls
@@ -12,74 +16,68 @@ use Rattle.tables.specs.Decode.{state_of}
 use Rattle.tables.specs.Contract.{memory_of}
 use Rattle.tables.proofs.AnsweredLaws.{answered_refused, answered_accepted}
 use Rattle.callers.specs.Caller.{caller_admitted}
-use Rattle.allocation.specs.Allocation.{allocate_not_admitted, allocate_checked, has_room}
+use Rattle.allocation.specs.Allocation.{area_rest, allocate_not_admitted, allocate_checked, has_room}
 use Rattle.allocation.proofs.allocate.Goals as goal
-use Rattle.allocation.proofs.allocate.Goals.{After-area_at-x, After-check_area-refusal, After-top_entry-area, Else-status-ne0}
+use Rattle.allocation.proofs.allocate.Goals.{After-area_at-x, After-top_entry-area, In_ok-check_caller}
 
-abbrev state : Else-status-ne0 → State
+abbrev state : In_ok-check_caller → State
 state c = state_of c.args.words.now c.args.bytes.now
 
-abbrev memory : Else-status-ne0 → Memory
+abbrev memory : In_ok-check_caller → Memory
 memory c = memory_of c.args.permanent.now c.args.scratch.now c.args.map.now c.args.written.now
 
-abbrev call : Else-status-ne0 → calls.Call
-call c = calls.allocate c.args.t c.args.slots c.args.data_words
+admitted : (c : In_ok-check_caller) → Admitted (state c) (memory c) c.args.t
+admitted c = caller_admitted _ _ _ c.in_ok-check_caller.ensures refl
 
-admitted : (c : Else-status-ne0) → Admitted (state c) (memory c) c.args.t
-admitted c = caller_admitted (state c) (memory c) c.args.t c.check_caller-status.ensures c.if-status-ne0.false
-
-top : (c : After-top_entry-area) → c.top_entry-area.result.area ≡ current_at (state (goal.at.After-top_entry-area c).Else-status-ne0) c.args.t
+top : (c : After-top_entry-area) → c.top_entry-area.result.area ≡ current_at (state_of c.args.words.now c.args.bytes.now) c.args.t
 top c = ap (λ (x : Entry). x.area) c.top_entry-area.ensures
 
 low : (c : After-top_entry-area) → c.top_entry-area.result.area < 64
-low c = rw (top c) (current_area (state (goal.at.After-top_entry-area c).Else-status-ne0) c.requires.good c.args.t (admitted (goal.at.After-top_entry-area c).Else-status-ne0).called.thread)
+low c = rw (top c) (current_area (state_of c.args.words.now c.args.bytes.now) c.requires.good c.args.t (admitted (goal.at.After-top_entry-area c).In_ok-check_caller).called.thread)
 
-record_is : (c : After-area_at-x) → c.area_at-x.result ≡ area_at (state (goal.at.After-area_at-x c).Else-status-ne0) c.top_entry-area.result.area
+record_is : (c : After-area_at-x) → c.area_at-x.result ≡ area_at (state_of c.args.words.now c.args.bytes.now) c.top_entry-area.result.area
 record_is c =
     c.area_at-x.ensures ∙ sym (area_read c.args.words.now c.args.bytes.now _ (low (goal.at.After-area_at-x c).After-top_entry-area))
 
 -- what check_area answers is the status
-checked : (c : After-check_area-refusal) → c.check_area-refusal.result ≡ calls.call_status (state (goal.at.After-check_area-refusal c).Else-status-ne0) (memory (goal.at.After-check_area-refusal c).Else-status-ne0) (call (goal.at.After-check_area-refusal c).Else-status-ne0)
-checked c =
-    allocate_checked _ _ _ _ _ (admitted (goal.at.After-check_area-refusal c).Else-status-ne0) (top (goal.at.After-check_area-refusal c).After-top_entry-area) c.has_right-may.ensures (record_is (goal.at.After-check_area-refusal c).After-area_at-x) c.check_area-refusal.ensures
+checked : (c : After-area_at-x) {n : ℕ} → n ≡ area_rest c.has_right-may.result c.area_at-x.result c.args.slots c.args.data_words
+    → n ≡ calls.call_status (state_of c.args.words.now c.args.bytes.now) (memory (goal.at.After-area_at-x c).In_ok-check_caller) (calls.allocate c.args.t c.args.slots c.args.data_words)
+checked c e =
+    allocate_checked _ _ _ _ _ (admitted (goal.at.After-area_at-x c).In_ok-check_caller) (top (goal.at.After-area_at-x c).After-top_entry-area) c.has_right-may.ensures (record_is c) e
 
-pub returns-then-status-ne0 : goal.returns-then-status-ne0
-returns-then-status-ne0 c =
-    answered_refused _ _ _ (calls.allocate _ _ _) c.requires (allocate_not_admitted _ _ _ _ _ c.check_caller-status.ensures c.if-status-ne0.true) c.if-status-ne0.true
+pub returns-in_err-check_caller : goal.returns-in_err-check_caller
+returns-in_err-check_caller c =
+    let e = c.in_err-check_caller.field-0.0 in
+    let q : c.from_residual.result ≡ Err e = search rules in
+    rw q (answered_refused _ _ _ (calls.allocate _ _ _) c.requires (allocate_not_admitted _ _ _ _ _ c.in_err-check_caller.ensures (number_some e)) (number_some e))
 
 pub top_entry-area-requires : goal.top_entry-area-requires
-top_entry-area-requires c = (c.requires, (admitted c).called.thread)
+top_entry-area-requires c = (c.requires, (admitted (goal.at.top_entry-area-requires c).In_ok-check_caller).called.thread)
 
 pub has_right-may-requires : goal.has_right-may-requires
-has_right-may-requires c = (c.requires, (admitted (goal.at.has_right-may-requires c).Else-status-ne0).called)
+has_right-may-requires c = (c.requires, (admitted (goal.at.has_right-may-requires c).In_ok-check_caller).called)
 
 pub area_at-x-requires : goal.area_at-x-requires
 area_at-x-requires c = low (goal.at.area_at-x-requires c).After-top_entry-area
 
-pub check_area-refusal-requires : goal.check_area-refusal-requires
-check_area-refusal-requires c = rw (record_is c) (c.requires.good.placed.used _ (low (goal.at.check_area-refusal-requires c).After-top_entry-area))
+pub check_area-requires : goal.check_area-requires
+check_area-requires c =
+    rw (record_is (goal.at.check_area-requires c).After-area_at-x) (c.requires.good.placed.used _ (low (goal.at.check_area-requires c).After-top_entry-area))
 
-pub returns-then-refusal-ne0 : goal.returns-then-refusal-ne0
-returns-then-refusal-ne0 c =
-    answered_refused _ _ (memory (goal.at.returns-then-refusal-ne0 c).Else-status-ne0) (call (goal.at.returns-then-refusal-ne0 c).Else-status-ne0) c.requires (checked (goal.at.returns-then-refusal-ne0 c).After-check_area-refusal) c.if-refusal-ne0.true
+pub returns-in_err-check_area : goal.returns-in_err-check_area
+returns-in_err-check_area c =
+    let e = c.in_err-check_area.field-0.0 in
+    let q : c.from_residual-in_err-check_area.result ≡ Err e = search rules in
+    rw q (answered_refused _ _ _ (calls.allocate _ _ _) c.requires (checked (goal.at.returns-in_err-check_area c).After-area_at-x c.in_err-check_area.ensures) (number_some e))
 
 pub apply_allocate-made-requires : goal.apply_allocate-made-requires
 apply_allocate-made-requires c =
-    ((c.requires, (admitted (goal.at.apply_allocate-made-requires c).Else-status-ne0).supplied), has_room _ _ _ _ _ (admitted (goal.at.apply_allocate-made-requires c).Else-status-ne0) (top (goal.at.apply_allocate-made-requires c).After-top_entry-area) c.has_right-may.ensures (record_is (goal.at.apply_allocate-made-requires c).After-area_at-x) c.check_area-refusal.ensures (low (goal.at.apply_allocate-made-requires c).After-top_entry-area) c.if-refusal-ne0.false)
+    let a = admitted (goal.at.apply_allocate-made-requires c).In_ok-check_caller in
+    let d = (goal.at.apply_allocate-made-requires c).After-top_entry-area in
+    let z : 0 ≡ area_rest c.has_right-may.result c.area_at-x.result c.args.slots c.args.data_words = omega arith in
+    ((c.requires, a.supplied), has_room _ _ _ _ _ a (top d) c.has_right-may.ensures (record_is (goal.at.apply_allocate-made-requires c).After-area_at-x) z (low d) refl)
 
 pub returns : goal.returns
 returns c =
     let o = rw (top (goal.at.returns c).After-top_entry-area) at c.apply_allocate-made.ensures in
-    answered_accepted _ _ (memory (goal.at.returns c).Else-status-ne0) (call (goal.at.returns c).Else-status-ne0) c.requires (checked (goal.at.returns c).After-check_area-refusal) c.if-refusal-ne0.false refl o.value_is o.holds o.memory_is
-
-pub shape_of-permanent : goal.shape_of-permanent
-shape_of-permanent c = c.apply_allocate-made.auto.permanent
-
-pub shape_of-scratch : goal.shape_of-scratch
-shape_of-scratch c = c.apply_allocate-made.auto.scratch
-
-pub shape_of-map : goal.shape_of-map
-shape_of-map c = c.apply_allocate-made.auto.map
-
-pub shape_of-written : goal.shape_of-written
-shape_of-written c = c.apply_allocate-made.auto.written
+    answered_accepted _ _ (memory (goal.at.returns c).In_ok-check_caller) (calls.allocate _ _ _) c.requires (checked (goal.at.returns c).After-area_at-x c.in_ok-check_area.ensures) refl refl o.value_is o.holds o.memory_is

@@ -8,8 +8,8 @@ use Rattle.allocation.proofs.check_area.Goals as goal
 pub returns-then-not-may : goal.returns-then-not-may
 returns-then-not-may c = no_right _ _ _ _ (search (rules, not-true))
 
-pub returns-then-room-smaller : goal.returns-then-room-smaller
-returns-then-room-smaller c = no_room_lem _ _ _ _ (search (rules, not-false)) (omega arith)
+pub returns-then-room-min : goal.returns-then-room-min
+returns-then-room-min c = no_room_lem _ _ _ _ (search (rules, not-false)) (omega arith)
 
 pub returns : goal.returns
 returns c = some_room _ _ _ _ (search (rules, not-false)) (omega arith)

@@ -9,8 +9,7 @@ loop-more-init c =
     let p = c.requires.lent in
     record {
       ready = p.0;
-      sized = refl;
-      began = refl;
+      began = c.new-line.ensures;
       chunk = p.1;
       room = omega (arith, p.1, p.2);
       rounds = progress_none _ _ _;
@@ -23,30 +22,30 @@ read_chunk-n-requires c =
     let v = c.loop-more.invariant in
     omega (arith, v.chunk, (v.goes_on.on c.loop-more-test.true).1)
 
-pub answer_chunk-fed-requires : goal.answer_chunk-fed-requires
-answer_chunk-fed-requires c =
+pub answer_chunk-requires : goal.answer_chunk-requires
+answer_chunk-requires c =
     let v = c.loop-more.invariant in
     let r = c.read_chunk-n in
     let h = (v.goes_on.on c.loop-more-test.true).1 in
+    let e = write_enough _ _ _ h (omega (arith, v.chunk, r.auto.input, r.ensures.0.0)) r.ensures.1 in
     record {
-      lent = (v.ready, v.sized, omega (arith, v.chunk, v.room, r.auto.input));
-      counted = (r.ensures.0, write_enough _ _ _ h (omega (arith, v.chunk, r.auto.input, r.ensures.0.0)) r.ensures.1);
+      lent = (v.ready, omega (arith, v.chunk, v.room, r.auto.input, r.ensures.0.0, r.ensures.0.1));
+      counted = omega (arith, e, r.ensures.0.1);
     }
 
 pub loop-more-smaller : goal.loop-more-smaller
 loop-more-smaller c =
-    round_less _ _ _ _ _ (c.loop-more.invariant.goes_on.on c.loop-more-test.true).1 c.read_chunk-n.ensures.1 c.answer_chunk-fed.ensures.wrote
+    round_less _ _ _ _ _ (c.loop-more.invariant.goes_on.on c.loop-more-test.true).1 c.read_chunk-n.ensures.1 c.answer_chunk.ensures.wrote
 
 pub loop-more-preserved : goal.loop-more-preserved
 loop-more-preserved c =
     let v = c.loop-more.invariant in
     let h = (v.goes_on.on c.loop-more-test.true).1 in
     let r = c.read_chunk-n in
-    let a = c.answer_chunk-fed.ensures in
+    let a = c.answer_chunk.ensures in
     let f = a.fed in
     record {
       ready = f.ready;
-      sized = f.sized;
       began = v.began;
       chunk = r.auto.input ∙ v.chunk;
       room = omega (arith, f.long, v.room);
@@ -63,7 +62,7 @@ returns-then-kept-eq0 c =
 pub answer_rest-sent-requires : goal.answer_rest-sent-requires
 answer_rest-sent-requires c =
     let v = c.loop-more.invariant in
-    (v.ready, v.sized, omega (arith, v.room), v.left c.if-kept-eq0.false)
+    (v.ready, omega (arith, v.room), v.left c.if-kept-eq0.false)
 
 pub returns : goal.returns
 returns c =

@@ -2,6 +2,8 @@
 use mathlib.Core.Path.{◌≡◌}
 use Prim.Native.Nat.{◌*◌, ◌≤◌, ◌<◌}
 use lib.ListN.{length, take}
+use mathlib.Core.List.{[]}
+use Rattle.lines.specs.Lines.{Buffered}
 use Rattle.tables.specs.Contract.{Ready}
 use Rattle.line_answers.specs.Answered.{core}
 use Rattle.frames.specs.Progress.{Continues, Progress}
@@ -10,8 +12,7 @@ use Rattle.frames.proofs.answer_all.Given as goal
 abbrev pub invariant-loop-more : goal.invariant-loop-more
 invariant-loop-more l = record {
   ready : Ready l.words l.bytes;
-  sized : length l.line ≡ 40;
-  began : length l.initial.line ≡ 40;
+  began : Buffered l.initial.line [];
   chunk : length l.input ≡ 16384;
   room : 19 * 16384 ≤ length l.output;
   rounds : Progress
@@ -19,7 +20,6 @@ invariant-loop-more l = record {
       l.initial.line
       (core l.words l.bytes l.permanent l.scratch l.map l.written)
       l.line
-      l.len
       (take l.n l.input)
       l.steps;
   goes_on : Continues l.n l.steps l.more;

@@ -1,18 +1,16 @@
--- `allocators_use` meets its contract. The invariant: in the groups so far A stands only with U.
-use native.Mathlib.Omega.{arith}
+-- `allocators_use` meets its contract.
+use Rattle.std.proofs.Common.{ℕ, ◌≡◌, ◌<◌, true, false, get_or, refl}
 use borrow.Author.Rules.{rules}
-use Rattle.loading.specs.Load.{uses_none, uses_more, uses_all}
+use borrow.Author.Tests.{tests}
+use Rattle.std.proofs.lemmas.Iterator.{cases_from_all, YieldsList-from_range}
+use Rattle.rights.specs.Rights.{allocator_uses, allocators_use}
+use Rattle.loading.specs.Load.{uses_all, all_in_range}
 use Rattle.loading.proofs.allocators_use.Goals as goal
 
-pub loop-g-init : goal.loop-g-init
-loop-g-init c = (search rules, c.requires, uses_none c.args.text.now)
-
-pub loop-g-preserved : goal.loop-g-preserved
-loop-g-preserved c =
-    let l = c.loop-g in
-    (search rules, l.invariant.1, uses_more c.args.text.now l.g l.invariant.2)
-
 pub returns : goal.returns
+unfolding allocator_uses allocators_use
 returns c =
-    let l = c.loop-g in
-    uses_all _ l.g (omega (arith, l.invariant.0)) l.invariant.2
+    let text = c.args.text.now in
+    uses_all text 9 refl
+    (all_in_range (allocator_uses text) 9 _
+    (cases_from_all _ _ _ (λ (g : ℕ). allocator_uses text g ≡ true) (λ (g : ℕ). allocator_uses text g ≡ false) c.all.ensures.ran (YieldsList-from_range 0 9 9 refl refl) (λ x q k. search (rules, tests)) (λ x q k. search (rules, tests))))

@@ -1,19 +1,16 @@
--- `any_started` meets its contract. The invariant: some thread so far is started.
-use native.Mathlib.Omega.{arith}
+-- `any_started` meets its contract.
+use Rattle.std.proofs.Common.{ℕ, ◌≡◌, ◌<◌, true, false, ltb, refl}
 use borrow.Author.Rules.{rules}
-use Rattle.loading.specs.Load.{started_none, started_more, started_all}
+use borrow.Author.Tests.{tests}
+use Rattle.std.proofs.lemmas.Iterator.{cases_from_any, YieldsList-from_range}
+use Rattle.tables.specs.Decode.{thread_record}
+use Rattle.loading.specs.Load.{any_in_range, started_told}
 use Rattle.loading.proofs.any_started.Goals as goal
-
-pub loop-t-init : goal.loop-t-init
-loop-t-init c = (search rules, started_none c.args.words.now c.args.bytes.now)
-
-pub loop-t-preserved : goal.loop-t-preserved
-loop-t-preserved c =
-    let l = c.loop-t in
-    let a = c.args in
-    (search rules, started_more a.words.now a.bytes.now l.t (search rules) c.thread_at.ensures l.invariant.1)
 
 pub returns : goal.returns
 returns c =
-    let l = c.loop-t in
-    started_all _ _ l.t (omega (arith, l.invariant.0)) l.invariant.1
+    let w = c.args.words.now in
+    started_told w c.args.bytes.now _
+    (any_in_range (λ (t : ℕ). ltb 0 (thread_record w t).kind) 16 _
+    (cases_from_any _ _ _ (λ (t : ℕ). ltb 0 (thread_record w t).kind ≡ true) (λ (t : ℕ). ltb 0 (thread_record w t).kind ≡ false) c.any.ensures.ran
+    (YieldsList-from_range 0 16 16 refl refl) (λ x q k. search (rules, tests)) (λ x q k. search (rules, tests))))

@@ -1,18 +1,15 @@
--- `only_binary` meets its contract. The invariant: the digits so far are 0 or 1.
-use native.Mathlib.Omega.{arith}
+-- `only_binary` meets its contract.
+use Rattle.std.proofs.Common.{ℕ, ◌≡◌, ◌<◌, true, false, get_or}
+use Rattle.std.specs.Bool.{MatchBool}
 use borrow.Author.Rules.{rules}
-use Rattle.loading.specs.Load.{binary_none, binary_more, binary_all}
+use borrow.Author.Tests.{tests}
+use Rattle.std.proofs.lemmas.Iterator.{cases_from_all, YieldsList-from_slice}
+use Rattle.rights.specs.Rights.{is_binary, only_binary}
+use Rattle.loading.specs.Load.{binary_told}
 use Rattle.loading.proofs.only_binary.Goals as goal
 
-pub loop-i-init : goal.loop-i-init
-loop-i-init c = (search rules, c.requires, binary_none c.args.text.now)
-
-pub loop-i-preserved : goal.loop-i-preserved
-loop-i-preserved c =
-    let l = c.loop-i in
-    (search rules, l.invariant.1, binary_more c.args.text.now l.i l.invariant.2)
-
 pub returns : goal.returns
+unfolding is_binary only_binary
 returns c =
-    let l = c.loop-i in
-    binary_all _ l.i (omega (arith, l.invariant.0)) l.invariant.2
+    binary_told _ c.requires _
+    (cases_from_all _ _ _ (λ (x : ℕ). is_binary x ≡ true) (λ (x : ℕ). is_binary x ≡ false) c.all.ensures.ran (YieldsList-from_slice c.args.text.now cc) (λ x q k. search (rules, tests)) (λ x q k. search (rules, tests)))
