@@ -12,7 +12,7 @@ ghost use Rattle.model.specs.Calls as calls;
 ghost use Rattle.tables.specs.Contract.{Answers, Ready, memory_of};
 ghost use Rattle.setup.specs.First.{Begun};
 
-use layout::answer::Answer;
+use layout::answer::{Answer, status_of};
 use setup::SetUp;
 use tables::{Buffers, Bytes, Words};
 
@@ -45,10 +45,7 @@ pub fn scopes_set_up_in_place(
     ensures { Begun result words.new bytes.new h i (memory_of permanent.now scratch.now map.now written.now) }
 {
     let buffers = Buffers::of(permanent, scratch, map, written);
-    match setup::set_up_in_place(words, bytes, &buffers, h, i) {
-        Ok(()) => 0,
-        Err(refusal) => refusal.number(),
-    }
+    status_of(setup::set_up_in_place(words, bytes, &buffers, h, i))
 }
 
 // Op 01: thread t starts, of a kind.

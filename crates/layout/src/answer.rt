@@ -1,6 +1,6 @@
 // The reply of every call: a value, or the refusal of the call; and the same in numbers, as C sees it.
 ghost use Rattle.std.specs.Prelude.{◌≡◌};
-ghost use Rattle.layout.specs.Answer.{number_of, answer_of};
+ghost use Rattle.layout.specs.Answer.{number_of, status_of, answer_of};
 
 // Why a call is refused. The numbers are those of documents 01 and 02.
 #[derive(Clone, Copy, PartialEq, Eq)]
@@ -34,6 +34,16 @@ impl Refusal {
         ensures { result ≡ number_of self }
     {
         self as u64
+    }
+}
+
+// The status of a check: 0 where it passes.
+pub fn status_of(checked: Result<(), Refusal>) -> u64
+    ensures { result ≡ status_of checked }
+{
+    match checked {
+        Ok(()) => 0,
+        Err(refusal) => refusal.number(),
     }
 }
 

@@ -8,7 +8,7 @@ ghost use Rattle.model.specs.SetUp.{set_up_status, set_up_state, standing};
 ghost use Rattle.tables.specs.Decode.{Holds};
 ghost use Rattle.setup.specs.First.{first_words, first_bytes, Begun};
 
-use layout::answer::Refusal;
+use layout::answer::{Refusal, status_of};
 use model::{Area, Lengths};
 use tables::{BYTES, Buffers, Bytes, WORDS, Words};
 
@@ -134,12 +134,8 @@ pub fn set_up(buffers: &Buffers<'_>, h: u64, i: u64) -> SetUp
     let mut words = [0u64; WORDS];
     let mut bytes = [0u8; BYTES];
     let begun = set_up_in_place(&mut words, &mut bytes, buffers, h, i);
-    let status = match begun {
-        Ok(()) => 0,
-        Err(refusal) => refusal.number(),
-    };
     SetUp {
-        status,
+        status: status_of(begun),
         words,
         bytes,
     }
