@@ -47,7 +47,8 @@ fn apply_allocate(
     slots: u64,
     data_words: u64,
 ) -> u64
-    requires { Lent words.old bytes.now (memory_of permanent.old scratch.old map.old written.old) × HasRoom (state_of words.old bytes.now) area x slots data_words }
+    requires { Lent words.old bytes.now (memory_of permanent.old scratch.old map.old written.old)
+        × HasRoom (state_of words.old bytes.now) area x slots data_words }
     ensures { ObjectMade result
         words.new bytes.now (memory_of permanent.new scratch.new map.new written.new)
         (state_of words.old bytes.now) (memory_of permanent.old scratch.old map.old written.old)

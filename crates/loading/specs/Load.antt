@@ -1,4 +1,4 @@
--- The load of a rights table: its loops, one law for each way that its checks end, and what it leaves.
+-- The load of a rights table: its tests, one law for each way that its checks end, and what it leaves.
 -- Assumes nothing.
 use Rattle.std.specs.Prelude.{ℕ, zero, suc, ◌+◌, ◌*◌, ◌<◌, Bool, true, false, ◌&&◌, ◌||◌, List, ◌≢◌, ◌≡◌, eqb, ltb, length, get_or, MatchBool}
 use Rattle.std.proofs.Math.Bool.{not}

@@ -34,13 +34,7 @@ fn allocators_use(text: &[u8]) -> bool
 fn is_table(text: &[u8]) -> bool
     ensures { result ≡ is_table text.now }
 {
-    if text.len() != 36 {
-        return false;
-    }
-    if !only_binary(text) {
-        return false;
-    }
-    allocators_use(text)
+    text.len() == 36 && only_binary(text) && allocators_use(text)
 }
 
 // ---- when

@@ -1,5 +1,6 @@
 -- The contracts of a look-up and of the checks of a call on an object, over the tables w and b and the lent buffers m. None of them reads the
--- written map: `found_any` and the laws after it, of objects/proofs/Places, say that the same holds whatever it is.
+-- written map: by the laws `found_any`, `number_any` and `object_any` of proofs/Places and `use_any`, `index_any` and `word_any` of
+-- proofs/Statuses the same holds whatever it is.
 -- Assumes nothing.
 use Rattle.std.specs.Prelude.{ℕ, List, ◌≡◌, Option, Result}
 use Rattle.layout.specs.declared.answer.Refusal.{Refusal}

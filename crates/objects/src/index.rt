@@ -57,7 +57,8 @@ pub fn check_index(
     q: u64,
 ) -> Result<WordPlace, Refusal>
     requires { Admissible words.now bytes.now buffers.now t }
-    ensures { Indexes result words.now bytes.now buffers.now p part q (λ s m. index_rest part s m t p q 0) }
+    ensures { Indexes result words.now bytes.now buffers.now p part q
+        (λ s m. index_rest part s m t p q 0) }
 {
     let o = check::check_object(words, bytes, buffers, t, p)?;
     if part.count(o) <= q {

@@ -70,7 +70,8 @@ fn check_store(
     target: u64,
 ) -> Result<WordPlace, Refusal>
     requires { Admissible words.now bytes.now buffers.now t }
-    ensures { Indexes result words.now bytes.now buffers.now p Slots q (λ s m. store_rest s m t p q target) }
+    ensures { Indexes result words.now bytes.now buffers.now p Slots q
+        (λ s m. store_rest s m t p q target) }
 {
     let w = objects::check_index(words, bytes, buffers, t, p, Part::Slots, q)?;
     let checked = check_reference(words, bytes, buffers, t, target);

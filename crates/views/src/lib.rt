@@ -37,7 +37,8 @@ fn check_view(
     p: u64,
 ) -> Result<Resolved, Refusal>
     requires { Fitting words.now bytes.now buffers.now }
-    ensures { Checks result words.now bytes.now buffers.now p (λ s m. called s t (use_rest s m t p 0)) }
+    ensures { Checks result words.now bytes.now buffers.now p
+        (λ s m. called s t (use_rest s m t p 0)) }
 {
     callers::check_thread(words, bytes, t)?;
     objects::check_object(words, bytes, buffers, t, p)
@@ -95,7 +96,8 @@ pub fn view<'a>(
     ensures answer { Replies (view_reply result.now) (calls.view t p)
         words.now bytes.now (memory_of permanent.now scratch.now map.now written.now)
         words.now bytes.now (memory_of permanent.now scratch.now map.now written.now) }
-    ensures place { PlacedAt result.ref_ptr permanent.entry.ref_ptr scratch.entry.ref_ptr (state_of words.now bytes.now) (memory_of permanent.now scratch.now map.now written.now) t p }
+    ensures place { PlacedAt result.ref_ptr permanent.entry.ref_ptr scratch.entry.ref_ptr
+        (state_of words.now bytes.now) (memory_of permanent.now scratch.now map.now written.now) t p }
 {
     let buffers = Buffers {
         permanent,

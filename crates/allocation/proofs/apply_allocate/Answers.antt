@@ -41,15 +41,3 @@ returns c =
     rw c.put_area.ensures
     (allocated _ _ (memory (goal.at.returns c).After-put_area) _ _ _ _ c.requires.0.0 c.requires.0.1 c.requires.1 _ c.bit_index-bit.ensures
     c.mark_object.ensures.0 c.clear_bits.ensures.0 c.put_object.ensures c.pack.ensures)
-
-pub shape_of-permanent : goal.shape_of-permanent
-shape_of-permanent c = c.put_object.auto.permanent
-
-pub shape_of-scratch : goal.shape_of-scratch
-shape_of-scratch c = c.put_object.auto.scratch
-
-pub shape_of-map : goal.shape_of-map
-shape_of-map c = c.mark_object.auto.map
-
-pub shape_of-written : goal.shape_of-written
-shape_of-written c = c.clear_bits.auto.map

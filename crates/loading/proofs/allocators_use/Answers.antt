@@ -1,5 +1,5 @@
 -- `allocators_use` meets its contract.
-use Rattle.std.proofs.Common.{ℕ, ◌≡◌, ◌<◌, true, false, get_or, refl}
+use Rattle.std.proofs.Common.{ℕ, ◌≡◌, true, false, refl}
 use borrow.Author.Rules.{rules}
 use borrow.Author.Tests.{tests}
 use Rattle.std.proofs.lemmas.Iterator.{cases_from_all, YieldsList-from_range}

@@ -1,5 +1,5 @@
 -- `any_started` meets its contract.
-use Rattle.std.proofs.Common.{ℕ, ◌≡◌, ◌<◌, true, false, ltb, refl}
+use Rattle.std.proofs.Common.{ℕ, ◌≡◌, true, false, ltb, refl}
 use borrow.Author.Rules.{rules}
 use borrow.Author.Tests.{tests}
 use Rattle.std.proofs.lemmas.Iterator.{cases_from_any, YieldsList-from_range}

@@ -1,16 +1,17 @@
 -- `is_table` meets its contract: one law for each way that its tests end.
-use borrow.Author.Rules.{rules}
-use borrow.Author.Tests.{not-true, not-false}
+use Rattle.std.proofs.Common.{sym, ◌∙◌, eqb-true}
 use Rattle.loading.specs.Load.{other_length, other_digit, by_allocators}
-use mathlib.Core.Bool.{not}
-use mathlib.Core.Path.{ap}
 use Rattle.loading.proofs.is_table.Goals as goal
+use Rattle.loading.proofs.is_table.Goals.{then-text-eq36, else-text-eq36}
 
-pub returns-then-text-ne36 : goal.returns-then-text-ne36
-returns-then-text-ne36 c = other_length _ (search rules)
+pub returns-then-only_binary : goal.returns-then-only_binary
+returns-then-only_binary c = elim c.if-text-eq36.branch [
+  | then-text-eq36 w ↦ by_allocators _ w.if-text-eq36.true w.only_binary.ensures (sym w.value-is ∙ c.if-only_binary.true) c.allocators_use.ensures
+  | else-text-eq36 w ↦ absurd (w.if-text-eq36.false (eqb-true _ _ (sym w.value-is ∙ c.if-only_binary.true)))
+]
 
-pub returns-then-not-only_binary : goal.returns-then-not-only_binary
-returns-then-not-only_binary c = other_digit _ (search rules) c.only_binary.ensures (not-true _ (ap not c.if-not-only_binary.true))
-
-pub returns : goal.returns
-returns c = by_allocators _ (search rules) c.only_binary.ensures (not-false _ (ap not c.if-not-only_binary.false)) c.allocators_use.ensures
+pub returns-else-only_binary : goal.returns-else-only_binary
+returns-else-only_binary c = elim c.if-text-eq36.branch [
+  | then-text-eq36 w ↦ c.if-only_binary.false ∙ other_digit _ w.if-text-eq36.true w.only_binary.ensures (sym w.value-is ∙ c.if-only_binary.false)
+  | else-text-eq36 w ↦ c.if-only_binary.false ∙ other_length _ w.if-text-eq36.false
+]

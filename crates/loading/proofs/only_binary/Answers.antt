@@ -1,6 +1,5 @@
 -- `only_binary` meets its contract.
-use Rattle.std.proofs.Common.{ℕ, ◌≡◌, ◌<◌, true, false, get_or}
-use Rattle.std.specs.Bool.{MatchBool}
+use Rattle.std.proofs.Common.{ℕ, ◌≡◌, true, false}
 use borrow.Author.Rules.{rules}
 use borrow.Author.Tests.{tests}
 use Rattle.std.proofs.lemmas.Iterator.{cases_from_all, YieldsList-from_slice}

@@ -5,7 +5,7 @@ use Prim.Native.Nat.{◌<◌}
 use lib.ListN.{length, get_or}
 use Rattle.std.specs.Prelude.{Err}
 use Rattle.layout.specs.Answer.{number_some}
-use Rattle.model.specs.State.{State, Memory, store_of}
+use Rattle.model.specs.State.{Memory, store_of}
 use Rattle.model.specs.References.{word_after}
 use Rattle.model.specs.Calls as calls
 use Rattle.model.proofs.Accepted.{Admitted}
