@@ -1,15 +1,16 @@
 -- `carry_out` meets its contract: each kind of op has it, of its own ops.
+use Rattle.std.proofs.Common.{sym}
 use mathlib.Core.Path.{refl}
 use Rattle.scopes.proofs.carry_out.Goals as goal
 
 pub returns-in-State : goal.returns-in-State
-returns-in-State c = rw c.in-State.is c.carry_state.ensures
+returns-in-State c = rw (c.in-State.is, sym c.of-buffers.ensures) c.carry_state.ensures
 
 pub returns-in-Memory : goal.returns-in-Memory
 returns-in-Memory c = rw c.in-Memory.is c.carry_memory.ensures
 
 pub returns-in-Question : goal.returns-in-Question
-returns-in-Question c = rw c.in-Question.is c.carry_question.ensures
+returns-in-Question c = rw (c.in-Question.is, sym c.of-buffers-in-Question.ensures) c.carry_question.ensures
 
 pub shape_of-permanent-in-State : goal.shape_of-permanent-in-State
 shape_of-permanent-in-State c = refl
