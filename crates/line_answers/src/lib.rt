@@ -1,4 +1,7 @@
 // A line is answered: a frame's call is carried out, any other line gives 18, and the answer is written.
+//
+// The tables and the four lent buffers are passed one by one, here and in the crates above: a struct of
+// `&mut` behind a `&mut` was tried, and its callers learn nothing of what its fields point at afterwards.
 #![tactic(auto)]
 
 ghost use Rattle.std.specs.Prelude.{◌≡◌, ◌+◌, ◌≤◌, length};

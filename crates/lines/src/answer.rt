@@ -24,7 +24,7 @@ fn write_digits(digits: &mut [u8], v: u64)
     }
 }
 
-// The 19 bytes from at on become the answer; every other byte stays.
+// The 19 bytes from at on become the answer; every other byte stays, so it is not passed those alone.
 pub fn write_answer(output: &mut [u8], at: usize, status: u64, value: u64)
     requires { at + 19 ≤ length output.old }
     ensures { output.new ≡ sets output.old at (answer_of status value) }

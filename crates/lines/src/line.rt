@@ -1,5 +1,5 @@
 // The line so far: no more than 40 of its bytes are kept, in place.
-ghost use Rattle.std.specs.Prelude.{◌≡◌, ◌↔◌, IsTrue, List, [], ◌∷◌, ◌++◌, ℕ};
+ghost use Rattle.std.specs.Prelude.{◌≡◌, ◌↔◌, IsTrue, List, [], ◌++◌, ℕ};
 ghost use Rattle.lines.specs.Lines.{Buffered};
 
 // The first bytes of a line, as many as a frame has, and how many bytes the line has: 41 stands for
@@ -27,16 +27,16 @@ impl Line {
         self.len == 0
     }
 
-    // One byte more, which is no line feed.
-    pub fn add_byte(&mut self, b: u8)
-        ensures { (l : List ℕ) → Buffered self.old l → Buffered self.new (l ++ (b ∷ [])) }
+    // Bytes more, none of them a line feed. They are copied together, so that the length is read and
+    // written once.
+    pub fn add_bytes(&mut self, bytes: &[u8])
+        ensures { (l : List ℕ) → Buffered self.old l → Buffered self.new (l ++ bytes.now) }
     {
-        if 40 <= self.len {
-            self.len = 41;
-            return;
+        if self.len < 40 {
+            let kept = bytes.len().min(40 - self.len);
+            self.text[self.len..self.len + kept].copy_from_slice(&bytes[..kept]);
         }
-        self.text[self.len] = b;
-        self.len += 1;
+        self.len = self.len.saturating_add(bytes.len()).min(41);
     }
 
     // The next line begins.

@@ -1,7 +1,7 @@
 -- Feeding: an input comes in chunks, and is answered as far as it goes. The output does not depend on where the chunks are cut.
 -- Assumes nothing.
-use Rattle.std.specs.Prelude.{ℕ, ◌≡◌, refl, true, false, List, [], ◌∷◌, ◌++◌, eqb}
-use Rattle.std.proofs.Common.{sym, ap, ◌∙◌, append_assoc, append-nil}
+use Rattle.std.specs.Prelude.{ℕ, suc, ◌<◌, ◌≡◌, refl, true, false, List, [], ◌∷◌, ◌++◌, eqb, length, get_or}
+use Rattle.std.proofs.Common.{sym, ap, ◌∙◌, append_assoc, append-nil, arith}
 use Rattle.layout.specs.Choice.{pick, cases, pick_true, pick_false}
 use Rattle.model.specs.Run.{World}
 use Rattle.line_answers.specs.Output.{line_answer, after_line, lines_of, answers_of, first_world, output_of}
@@ -21,6 +21,10 @@ unfoldable pub fed : World → List ℕ → List ℕ → Feeding
 fed w l [] = record { output = []; world = w; line = l }
 fed w l (b ∷ input) =
     pick (eqb b 10) (after (line_answer w l) (fed (after_line w l) [] input)) (fed w (l ++ (b ∷ [])) input)
+
+-- bytes that are no line feed
+abbrev pub NoFeed : List ℕ → Type 0
+NoFeed bs = (k : ℕ) → k < length bs → eqb (get_or bs k 0) 10 ≡ false
 
 -- the end of input: a line so far that is not empty is a line
 unfoldable pub finished : World → List ℕ → Feeding
@@ -51,6 +55,13 @@ fed_end w l b input e = pick_true (eqb b 10) (after (line_answer w l) (fed (afte
 pub fed_other : (w : World) (l : List ℕ) (b : ℕ) (input : List ℕ) → eqb b 10 ≡ false → fed w l (b ∷ input) ≡ fed w (l ++ (b ∷ [])) input
 unfolding fed
 fed_other w l b input e = pick_false (eqb b 10) (after (line_answer w l) (fed (after_line w l) [] input)) (fed w (l ++ (b ∷ [])) input) e
+
+-- bytes that are no line feed
+pub fed_run : (bs : List ℕ) (w : World) (l : List ℕ) → NoFeed bs → fed w l bs ≡ record { output = []; world = w; line = l ++ bs }
+fed_run [] w l n = rw (append-nil l) (fed_none w l)
+fed_run (b ∷ bs) w l n =
+    fed_other w l b bs (n 0 (omega arith)) ∙ fed_run bs w (l ++ (b ∷ [])) (λ k h. n (suc k) (omega arith))
+    ∙ rw (append_assoc l (b ∷ []) bs) refl
 
 -- the end of input, after an empty line so far and after another
 pub finished_none : (w : World) → finished w [] ≡ record { output = []; world = w; line = [] }

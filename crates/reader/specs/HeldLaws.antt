@@ -1,9 +1,15 @@
 -- Laws of what is held: a byte fed in each case, and the end of input.
 -- Assumes nothing.
-use Rattle.std.specs.Prelude.{◌≡◌, refl, List, [], ◌∷◌, ◌++◌, ℕ, ◌+◌, ◌<◌, eqb, length, take, get_or, replicate}
-use Rattle.std.proofs.Common.{sym, ap, ◌∙◌, subst, append-nil, arith, eq-eqb, ne_eqb, add-one, take-suc}
+use Rattle.std.specs.Prelude.{Bool, ltb, Some, None, drop, ◌≡◌, refl, List, [], ◌∷◌, ◌++◌, ℕ, ◌+◌, ◌*◌, ◌≤◌, ◌<◌, eqb, length, take, get_or, replicate}
+use Rattle.std.proofs.Common.{sym, ap, ◌∙◌, subst, append-nil, arith, eq-eqb, add-one, append_assoc, length-append, length-take}
+use Rattle.std.specs.List.{position, position_or_len}
+use Rattle.std.proofs.lemmas.List.Quantifiers.{position-Some}
+use Rattle.std.proofs.lemmas.List.{get_or-take, take-append-drop}
+use borrow.Author.Tests.{eqb-true, ltb-false}
+use Rattle.std.proofs.lemmas.List.Sums.{fails_before_first}
+use Rattle.std.proofs.Math.Seq.{drop-cons}
 use Rattle.std.proofs.lemmas.List.{length-replicate}
-use Rattle.layout.specs.Choice.{pick_true}
+use Rattle.layout.specs.Choice.{cases, pick_true}
 use Rattle.model.specs.declared.Lengths.{Lengths}
 use Rattle.model.specs.SetUp.{lengths_of, set_up_status, set_up_state, first_state}
 use Rattle.model.specs.Run.{World, begin}
@@ -14,10 +20,13 @@ use Rattle.line_answers.specs.Answered.{Core, core, Represents, Ended, length_li
 use Rattle.lines.specs.declared.line.Line.{Line}
 use Rattle.lines.specs.Lines.{Buffered, emptied}
 use Rattle.lines.specs.LineLaws.{buffered_none}
-use Rattle.reader.specs.Feeding.{finished_none, finished_rest, fed_none, fed_end, fed_other}
-use Rattle.reader.specs.Held.{Held, held, LeavesFed, Feeds, Finishes, feeds_append}
+use Rattle.reader.specs.Feeding.{finished_none, finished_rest, NoFeed, fed_none, fed_end, fed_run}
+use Rattle.reader.specs.Held.{Held, held, LeavesFed, Feeds, Finishes, feeds_none, feeds_append}
 
--- ---- a byte
+-- ---- a line feed, and other bytes
+
+abbrev pub is_feed : ℕ → Bool
+is_feed b = eqb b 10
 
 module _ (k n : Core) (line : Line) (out : List ℕ) (at : ℕ) (written : List ℕ) (d : Ended k n line out at written) where
   leaves_ended : {next : Line} → Buffered next [] → (w : World) (l : List ℕ) → Represents k w → Buffered line l
@@ -40,23 +49,68 @@ module _ (k n : Core) (line : Line) (out : List ℕ) (at : ℕ) (written : List 
         rw (fed_end w l b [] (eq-eqb b 10 e), fed_none (after_line w l) [], append-nil (line_answer w l)) (leaves_ended z w l s h);
   }
 
--- any other byte
-pub feeds_other : (k : Core) (line : Line) (out : List ℕ) (at b : ℕ) (line₁ : Line) → (b ≡ 10 → ⊥)
-    → Ready k.words k.bytes → ((l : List ℕ) → Buffered line l → Buffered line₁ (l ++ (b ∷ [])))
-    → Feeds (held k line out at) (held k line₁ out at) (b ∷ [])
-feeds_other k line out at b line₁ n y g = record {
+-- bytes that are no line feed
+pub feeds_other : (k : Core) (line : Line) (out : List ℕ) (at : ℕ) (bs : List ℕ) (line₁ : Line) → NoFeed bs
+    → Ready k.words k.bytes → ((l : List ℕ) → Buffered line l → Buffered line₁ (l ++ bs))
+    → Feeds (held k line out at) (held k line₁ out at) bs
+feeds_other k line out at bs line₁ n y g = record {
   ready = y;
   long = refl;
   room = omega arith;
   leaves = λ w l s h.
-      rw (fed_other w l b [] (ne_eqb b 10 n), fed_none w (l ++ (b ∷ [])))
-      (record { represents = s; buffered = g l h; at_is = omega arith; output_is = refl });
+      rw (fed_run bs w l n) (record { represents = s; buffered = g l h; at_is = omega arith; output_is = refl });
 }
 
--- one byte more of the input
-pub feeds_more : (e x y : Held) (input : List ℕ) (i : ℕ) → i < length input → Feeds e x (take i input) → Feeds x y (get_or input i 0 ∷ [])
-    → Feeds e y (take (i + 1) input)
-feeds_more e x y input i h a b = rw (add-one, take-suc input i 0 h) (feeds_append e x y (take i input) (get_or input i 0 ∷ []) a b)
+-- ---- an input, as far as it is fed
+
+-- feeding the input up to the rest leads from e to x
+pub record FedTo (e x : Held) (rest input : List ℕ) : Type 0 where
+  pub before : List ℕ
+  pub split : before ++ rest ≡ input
+  pub fed : Feeds e x before
+
+pub fed_to_start : (e : Held) (input : List ℕ) → Ready e.core.words e.core.bytes → FedTo e e input input
+fed_to_start e input y = record { before = []; split = refl; fed = feeds_none e y }
+
+-- an answer for each byte so far, and one more
+pub fed_to_room : {e x : Held} {rest input : List ℕ} → FedTo e x rest input → 0 < length rest → x.at + 19 ≤ e.at + 19 * length input
+fed_to_room {rest = rest} t h = omega (arith, t.fed.room, ap length t.split, length-append t.before rest)
+
+-- the first line feed of the rest, and the bytes before it
+module _ (rest : List ℕ) (n : ℕ) (p : position is_feed rest ≡ Some n) where
+  pub within_rest : n < length rest
+  within_rest = (position-Some is_feed rest n 0 p).0
+
+  pub no_feed_before : NoFeed (take n rest)
+  no_feed_before k h =
+      let m : k < n = omega (arith, length-take n rest) in
+      rw (get_or-take n rest k 0 m) ((position-Some is_feed rest n 0 p).2 k m)
+
+  -- the line that it ends
+  pub fed_to_more : {e x y : Held} {input rest₁ : List ℕ} → FedTo e x rest input → Feeds x y (take n rest ++ (10 ∷ []))
+      → rest₁ ≡ drop (n + 1) rest → FedTo e y rest₁ input
+  fed_to_more {e} {x} {y} {input} t f r =
+      let b : get_or rest n 0 ≡ 10 = eqb-true _ 10 (position-Some is_feed rest n 0 p).1 in
+      let d : drop n rest ≡ 10 ∷ drop (n + 1) rest = drop-cons rest n 0 within_rest ∙ rw (b, add-one) refl in
+      let s : (take n rest ++ (10 ∷ [])) ++ drop (n + 1) rest ≡ rest =
+      append_assoc (take n rest) (10 ∷ []) (drop (n + 1) rest) ∙ ap (λ (z : List ℕ). take n rest ++ z) (sym d) ∙ take-append-drop n rest
+      in
+      subst (λ (z : List ℕ). FedTo e y z input) (sym r)
+      (record {
+        before = t.before ++ (take n rest ++ (10 ∷ []));
+        split = append_assoc t.before (take n rest ++ (10 ∷ [])) (drop (n + 1) rest) ∙ ap (λ (z : List ℕ). t.before ++ z) s ∙ t.split;
+        fed = feeds_append e x y t.before (take n rest ++ (10 ∷ [])) t.fed f;
+      })
+
+-- no line feed is left
+pub no_feed_left : (rest : List ℕ) → position is_feed rest ≡ None → NoFeed rest
+no_feed_left rest p k h =
+    cases (ltb (position_or_len is_feed rest) (length rest))
+    (λ e. let q : Some (position_or_len is_feed rest) ≡ None = rw e at p in absurd (cc))
+    (λ e. fails_before_first is_feed rest k 0 (omega (arith, ltb-false _ _ e)))
+
+pub fed_to_end : {e x y : Held} {rest input : List ℕ} → FedTo e x rest input → Feeds x y rest → Feeds e y input
+fed_to_end {e} {x} {y} {rest} t f = subst (Feeds e y) t.split (feeds_append e x y t.before rest t.fed f)
 
 -- ---- the end of input
 

@@ -1,5 +1,5 @@
 -- `answer_all` meets its contract.
-use mathlib.Core.Path.{refl, ◌∙◌}
+use mathlib.Core.Path.{◌∙◌}
 use native.Mathlib.Omega.{arith}
 use Rattle.frames.specs.ProgressLaws.{continues_first, write_enough, rest_enough, round_less, progress_none, progress_more, ran_failed, ran_whole}
 use Rattle.frames.proofs.answer_all.Goals as goal

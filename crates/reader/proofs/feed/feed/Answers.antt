@@ -1,23 +1,26 @@
--- `feed` meets its contract.
-use Rattle.std.proofs.Common.{arith, take_all, length-take}
-use Rattle.reader.specs.Held.{feeds_none}
-use Rattle.reader.specs.HeldLaws.{feeds_more}
+-- `feed` meets its contract: line by line, and the bytes that are left.
+use Rattle.std.proofs.Common.{◌+◌, sym, ◌∙◌, arith, take_all, length-drop}
+use Rattle.reader.specs.HeldLaws.{feeds_other, fed_to_start, fed_to_room, fed_to_more, fed_to_end, within_rest, no_feed_before, no_feed_left}
 use Rattle.reader.proofs.feed.feed.Goals as goal
 
-pub loop-b-init : goal.loop-b-init
-loop-b-init c = record { room = c.requires.1; fed = feeds_none _ c.requires.0 }
+pub loop-n-init : goal.loop-n-init
+loop-n-init c = record { room = c.requires.1; fed = fed_to_start _ _ c.requires.0 }
 
-pub feed_byte-at-requires : goal.feed_byte-at-requires
-feed_byte-at-requires c =
-    let v = c.loop-b.invariant in
-    (v.fed.ready, omega (arith, v.fed.room, v.fed.long, v.room, length-take c.loop-b.b-index c.args.input.now))
+pub feed_line-requires : goal.feed_line-requires
+feed_line-requires c =
+    let v = c.loop-n.invariant in
+    let p = sym c.line_feed.ensures ∙ c.in-Some.is in
+    let h = within_rest c.loop-n.rest.now c.in-Some.n p in
+    (v.fed.fed.ready, no_feed_before _ _ p, omega (arith, fed_to_room v.fed (omega (arith, h)), v.fed.fed.long, v.room))
 
-pub loop-b-preserved : goal.loop-b-preserved
-loop-b-preserved c =
-    let v = c.loop-b.invariant in
-    record { room = v.room; fed = feeds_more _ _ _ _ _ c.loop-b-test.true v.fed c.feed_byte-at.ensures }
+pub loop-n-preserved : goal.loop-n-preserved
+loop-n-preserved c =
+    let v = c.loop-n.invariant in
+    let p = sym c.line_feed.ensures ∙ c.in-Some.is in
+    record { room = v.room; fed = fed_to_more _ _ p v.fed c.feed_line.ensures (take_all _ _ (omega (arith, length-drop (c.in-Some.n + 1) c.loop-n.rest.now))) }
 
 pub returns : goal.returns
 returns c =
-    let l = c.loop-b in
-    rw (take_all l.b-index c.args.input.now c.loop-b-test.false) at l.invariant.fed
+    let v = c.loop-n.invariant in
+    fed_to_end v.fed
+    (feeds_other _ _ _ _ _ _ (no_feed_left _ (sym c.line_feed.ensures ∙ c.in_default.is)) v.fed.fed.ready c.add_bytes.ensures)
