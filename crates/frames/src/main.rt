@@ -21,7 +21,7 @@ ghost use Rattle.frames.specs.Progress.{Continues, Ran};
 
 use lines::line::Line;
 use rounds::{Output, Streams};
-use tables::{Bytes, Words};
+use tables::{Buffers, Bytes, Words};
 
 // How a run ended: how many bytes the last read gave, how many steps were left before and after
 // the rest was answered (none before it if something failed), and how many bytes its answer has.
@@ -124,7 +124,8 @@ fn run(streams: Streams) {
     let mut scratch = zeros::<4096>();
     let mut map = zeros::<96>();
     let mut written = zeros::<96>();
-    let begun = setup::set_up(&permanent, &scratch, &map, &written, 1024, 1024);
+    let buffers = Buffers::of(&permanent, &scratch, &map, &written);
+    let begun = setup::set_up(&buffers, 1024, 1024);
     let mut words = begun.words;
     let mut bytes = begun.bytes;
     // A chunk of the input, and room for an answer to each byte of it.
