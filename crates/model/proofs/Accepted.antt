@@ -16,7 +16,7 @@ use Rattle.runs.proofs.LowestRun.{lowest_run_lem}
 use Rattle.rights.specs.Rights.{is_table, Loadable}
 use Rattle.rights.proofs.Loading.{table_loadable}
 use Rattle.model.specs.State.{State, Memory, area_at, thread_at, stack_at, innermost, is_no_scope, is_made, is_open}
-use Rattle.model.specs.Blocks.{block_count, blocks_for, room_for, no_room}
+use Rattle.model.specs.Blocks.{block_count, blocks_for, room_for}
 use Rattle.model.specs.Checks.{fits, fitted, called, admit, header_at, live, is_object, is_reference, use_rest}
 use Rattle.model.specs.Threads.{is_kind, startable, start_rest, end_rest}
 use Rattle.model.specs.Scopes.{make_rest, last_generation, other_parent, generations_out, enter_rest, exit_rest}

@@ -1,6 +1,5 @@
 -- Samples of blocks and removals: whole blocks, the lowest run, the size as asked, old handles, and the order of the refusals.
 -- Assumes nothing.
-use Prim.Native.Nat.{ℕ}
 use mathlib.Core.List.{List, [], ◌∷◌, ◌++◌}
 use mathlib.Core.Path.{◌≡◌, refl}
 use Rattle.model.specs.State.{State, area_at}

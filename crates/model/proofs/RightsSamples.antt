@@ -5,7 +5,7 @@ use mathlib.Core.List.{List, [], ◌∷◌, ◌++◌}
 use mathlib.Core.Path.{◌≡◌, refl}
 use lib.ListN.{set}
 use Rattle.rights.specs.Rights.{text_of, built_in}
-use Rattle.model.specs.Calls.{Call, start, end, enter, allocate, load_rights}
+use Rattle.model.specs.Calls.{start, end, enter, allocate, load_rights}
 use Rattle.model.specs.Run.{World, other, supplied_to, step}
 use Rattle.model.proofs.SampleRuns.{answer, statuses, each, supplied, copies, first}
 

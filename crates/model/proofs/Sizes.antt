@@ -1,19 +1,17 @@
 -- The size of each scope is the one that the lines tell, 0 where it is not made; so they tell what a removal answers, and where scopes are made.
 -- Assumes nothing.
 use Prim.Native.Nat.{ℕ, ◌+◌, ◌≤◌, ◌<◌}
-use mathlib.Core.Bool.{not, ◌||◌, true, false}
-use mathlib.Core.List.{List, [], ◌∷◌}
-use mathlib.Core.Path.{◌≡◌, refl, sym, ap, ◌∙◌}
+use mathlib.Core.List.{List, ◌∷◌}
+use mathlib.Core.Path.{◌≡◌, refl, ap, ◌∙◌}
 use mathlib.Core.Logic.{◌≢◌, ◌↔◌, ⊎_elim}
 use lib.Dec.{eqb, leb, ltb}
 use native.Mathlib.Omega.{arith}
-use borrow.Author.Tests.{eqb-true, eqb-false, eq-eqb, ne_eqb, ltb-true, ltb-false, lt-ltb, le-ltb, leb-true, leb-false}
+use borrow.Author.Tests.{eqb-true, eqb-false, ltb-false, leb-true, leb-false}
 use Rattle.layout.specs.Choice.{refuse, cases, or_false}
 use Rattle.bitmap.specs.Bitmap.{bit_at}
 use Rattle.model.specs.declared.Area.{Area}
 use Rattle.model.specs.declared.Lengths.{Lengths}
 use Rattle.model.specs.State.{State, Memory, area_at, is_no_scope, is_made}
-use Rattle.model.specs.Blocks.{first_block, blocks_for}
 use Rattle.model.specs.SetUp.{first_state}
 use Rattle.model.specs.Checks.{called}
 use Rattle.model.specs.Scopes.{enter_state, exit_state}

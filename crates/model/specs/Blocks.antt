@@ -1,6 +1,6 @@
 -- The blocks of the scratch store: how many there are, which are free, which an area has, and where a new scope gets its own.
 -- Assumes nothing.
-use Rattle.std.specs.Prelude.{ℕ, ◌+◌, ◌*◌, ◌/◌, ◌≤◌, ◌<◌, Bool, eqb}
+use Rattle.std.specs.Prelude.{ℕ, ◌+◌, ◌/◌, ◌≤◌, ◌<◌, Bool, eqb}
 use Rattle.bitmap.specs.Bitmap.{cleared, marked}
 use Rattle.runs.specs.LowestRun.{lowest_run, is_clear}
 use Rattle.model.specs.declared.Area.{Area}

@@ -1,6 +1,6 @@
 -- Ops 03, 04 and 05: scopes are made, entered and left.
 -- Assumes nothing.
-use Rattle.std.specs.Prelude.{ℕ, suc, pred, ◌+◌, ◌*◌, Bool, not, ◌&&◌, ◌||◌, eqb, leb, ltb, set}
+use Rattle.std.specs.Prelude.{ℕ, suc, pred, ◌*◌, Bool, not, ◌&&◌, ◌||◌, eqb, leb, set}
 use Rattle.layout.specs.Choice.{pick, refuse}
 use Rattle.layout.specs.Display.{extended_row}
 use Rattle.rights.specs.declared.Right.TheVariants.{Enter}

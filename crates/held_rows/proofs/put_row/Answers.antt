@@ -1,6 +1,6 @@
 -- `put_row` meets its contract: the part of the bytes becomes the row.
-use mathlib.Core.Path.{◌≡◌, ◌∙◌}
-use Prim.Native.Nat.{ℕ, ◌+◌, ◌-◌}
+use mathlib.Core.Path.{◌≡◌}
+use Prim.Native.Nat.{◌+◌, ◌-◌}
 use native.Mathlib.Omega.{arith}
 use Rattle.tables.specs.Cut.{put_part}
 use Rattle.tables.specs.Decode.{row_bytes, row_index, put_byte_row}

@@ -1,6 +1,6 @@
 -- `row_at` meets its contract: the part of the bytes is the row.
 use mathlib.Core.Path.{◌≡◌, ◌∙◌}
-use Prim.Native.Nat.{ℕ, ◌+◌, ◌-◌}
+use Prim.Native.Nat.{◌+◌, ◌-◌}
 use native.Mathlib.Omega.{arith}
 use Rattle.tables.specs.Cut.{cut_part}
 use Rattle.tables.specs.Decode.{row_bytes, row_index, byte_row}

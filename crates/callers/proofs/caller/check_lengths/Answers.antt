@@ -1,5 +1,5 @@
 -- `callers::caller::check_lengths` meets its contract. Assumes nothing.
-use Rattle.std.proofs.Common.{rules, ap}
+use Rattle.std.proofs.Common.{ap}
 use Rattle.std.proofs.Math.Bool.{not}
 use Rattle.callers.specs.Caller.{unfit, fit}
 use Rattle.callers.proofs.caller.check_lengths.Goals as goal
