@@ -1,9 +1,10 @@
 -- One thread's scope stack as a record, and what a push and a pop answer and leave.
 -- Assumes nothing.
-use Rattle.std.specs.Prelude.{List, [], ◌∷◌, ℕ, zero, suc, ◌+◌, ◌-◌, min, eqb, leb, ltb, set, get_or, replicate}
+use Rattle.std.specs.Prelude.{◌≡◌, List, [], ◌∷◌, ℕ, zero, suc, ◌+◌, ◌-◌, min, eqb, leb, ltb, set, get_or, replicate, Result, Ok, Err}
 use Rattle.layout.specs.Choice.{pick}
 use Rattle.layout.specs.declared.answer.Answer.{Answer}
-use Rattle.layout.specs.Answer.{accepted, refused}
+use Rattle.layout.specs.declared.answer.Refusal.{Refusal}
+use Rattle.layout.specs.Answer.{accepted, refused, number_of}
 use Rattle.layout.specs.declared.stack.ScopeStack.{ScopeStack}
 
 -- "It begins empty"
@@ -39,3 +40,12 @@ pop_answer s = pick (eqb (height_of s) 0) (refused 11) (accepted (get_or s.entri
 -- "a refusal keeps the entries"; else the top one is off
 unfoldable pub popped_stack : ScopeStack → ScopeStack
 popped_stack s = pick (eqb (height_of s) 0) s (record { len = height_of s - 1; entries = s.entries })
+
+-- what a push and a pop by value answer: the stack that they leave, or the refusal, which leaves it as it is
+abbrev pub Pushes : Result ScopeStack Refusal → ScopeStack → ℕ → Type 0
+Pushes (Ok next) s area = (accepted 0 ≡ push_answer s area) × (next ≡ pushed_stack s area)
+Pushes (Err r) s area = (refused (number_of r) ≡ push_answer s area) × (s ≡ pushed_stack s area)
+
+abbrev pub Pops : Result (ScopeStack × ℕ) Refusal → ScopeStack → Type 0
+Pops (Ok x) s = (accepted x.1 ≡ pop_answer s) × (x.0 ≡ popped_stack s)
+Pops (Err r) s = (refused (number_of r) ≡ pop_answer s) × (s ≡ popped_stack s)

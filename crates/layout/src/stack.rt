@@ -1,7 +1,7 @@
 // One thread's scope stack as a record of its own, and places on a stack.
 ghost use Rattle.std.specs.Prelude.{◌≡◌};
 ghost use Rattle.layout.specs.Answer.{answer_of};
-ghost use Rattle.layout.specs.Stack.{empty_stack, height_of, push_answer, pushed_stack, pop_answer, popped_stack};
+ghost use Rattle.layout.specs.Stack.{empty_stack, height_of, push_answer, pushed_stack, pop_answer, popped_stack, Pushes, Pops};
 
 use crate::answer::Refusal;
 
@@ -36,11 +36,10 @@ impl ScopeStack {
         Place(self.len.min(32) as usize)
     }
 
-    // An area goes on top: 6 for one above 63, then 9 on 32 entries, else 0; refused, the stack stays as it is.
+    // The stack with one entry more, by value: refused by 6 for an area above 63, then by 9 on 32 entries.
     #[tactic(auto, unfolding(crate::specs::Stack::push_answer, crate::specs::Stack::pushed_stack))]
-    pub fn push(&mut self, area: u64) -> Result<u64, Refusal>
-        ensures answer { answer_of result ≡ push_answer self.old area }
-        ensures stack { self.new ≡ pushed_stack self.old area }
+    pub fn pushed(self, area: u64) -> Result<ScopeStack, Refusal>
+        ensures { Pushes result self area }
     {
         if 63 < area {
             return Err(Refusal::Area);
@@ -48,23 +47,43 @@ impl ScopeStack {
         if 32 <= self.len {
             return Err(Refusal::StackFull);
         }
-        self.entries[self.len as usize] = area as u8;
-        self.len += 1;
-        Ok(0)
+        let mut next = self;
+        next.entries[self.len as usize] = area as u8;
+        next.len = self.len + 1;
+        Ok(next)
     }
 
-    // The top entry goes: 11 where there is none, and the stack stays as it is; else the area.
+    // The stack without its top entry, by value, and the area of that entry: refused by 11 where there is none.
     #[tactic(auto, unfolding(crate::specs::Stack::pop_answer, crate::specs::Stack::popped_stack))]
-    pub fn pop(&mut self) -> Result<u64, Refusal>
-        ensures answer { answer_of result ≡ pop_answer self.old }
-        ensures stack { self.new ≡ popped_stack self.old }
+    pub fn popped(self) -> Result<(ScopeStack, u64), Refusal>
+        ensures { Pops result self }
     {
         let above = self.height().0;
         if above == 0 {
             return Err(Refusal::Entries);
         }
         let at = above - 1;
-        self.len = at as u64;
-        Ok(self.entries[at] as u64)
+        let mut next = self;
+        next.len = at as u64;
+        Ok((next, self.entries[at] as u64))
+    }
+
+    // An area goes on top; refused, the stack stays as it is.
+    pub fn push(&mut self, area: u64) -> Result<u64, Refusal>
+        ensures answer { answer_of result ≡ push_answer self.old area }
+        ensures stack { self.new ≡ pushed_stack self.old area }
+    {
+        *self = self.pushed(area)?;
+        Ok(0)
+    }
+
+    // The top entry goes, and its area is the value; refused, the stack stays as it is.
+    pub fn pop(&mut self) -> Result<u64, Refusal>
+        ensures answer { answer_of result ≡ pop_answer self.old }
+        ensures stack { self.new ≡ popped_stack self.old }
+    {
+        let (next, area) = self.popped()?;
+        *self = next;
+        Ok(area)
     }
 }
