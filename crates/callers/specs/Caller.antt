@@ -51,11 +51,19 @@ module _ (w b : List ℕ) (m : Memory) (o : Lengths) (e : o ≡ lengths_record w
 -- refusal 1 by the test of the lengths, and the rest of a call's refusals after it
 module _ (s : State) (m : Memory) where
   -- r is what lengths_fit answers
-  pub unfit : {r : Bool} → r ≡ fits s m → not r ≡ true → 1 ≡ fitted s m 0
-  unfit {r} e h = sym (unfit_fitted s m (sym e ∙ not-true r h) 0)
+  module _ {r : Bool} (e : r ≡ fits s m) where
+    pub unfit : not r ≡ true → fits s m ≡ false
+    unfit h = sym e ∙ not-true r h
 
-  pub fit : {r : Bool} → r ≡ fits s m → not r ≡ false → 0 ≡ fitted s m 0
-  fit {r} e h = sym (fit_fitted s m (sym e ∙ not-false r h) 0)
+    pub fit : not r ≡ false → fits s m ≡ true
+    fit h = sym e ∙ not-false r h
+
+    -- and so what check_lengths does
+    pub check_unfit : not r ≡ true → 1 ≡ fitted s m 0
+    check_unfit h = sym (unfit_fitted s m (unfit h) 0)
+
+    pub check_fit : not r ≡ false → 0 ≡ fitted s m 0
+    check_fit h = sym (fit_fitted s m (fit h) 0)
 
   -- n is what check_lengths answers: where it refuses, the call is refused by it
   pub lengths_refused : {n : ℕ} → n ≡ fitted s m 0 → n ≢ 0 → (rest : ℕ) → n ≡ fitted s m rest

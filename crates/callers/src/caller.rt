@@ -24,7 +24,7 @@ pub fn lengths_fit(words: &Words, bytes: &Bytes, buffers: &Buffers<'_>) -> bool
     buffers.written.len() as u64 == held_lengths::lengths_at(words).map
 }
 
-// Refusal 1.
+// Refusal 1. Each op begins by it and goes on with a function of its own: over a closure that would be as long.
 pub fn check_lengths(words: &Words, bytes: &Bytes, buffers: &Buffers<'_>) -> Result<(), Refusal>
     ensures { status_of result ≡ fitted (state_of words.now bytes.now) buffers.now 0 }
 {

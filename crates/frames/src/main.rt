@@ -104,7 +104,7 @@ fn answer_all(
     }
 }
 
-// Room for bytes. The `ensures` gives only how much.
+// Room for bytes. The `ensures` gives only how much, so that no proof writes out as many zeros.
 fn room<const N: usize>() -> [u8; N]
     ensures { length result ≡ N }
 {

@@ -86,7 +86,7 @@ fn raise_counts(words: &mut Words, bytes: &Bytes, t: usize)
 
 // ---- the call
 
-// What an accepted call does: the helper receives the stack of thread t.
+// What an accepted call does: the helper receives the stack of thread t. Its kind is written as its number.
 fn apply_helper(words: &mut Words, bytes: &mut Bytes, t: usize, kind: u64, helper: usize)
     requires { Ready words.old bytes.old × HelperOk (state_of words.old bytes.old) t kind helper }
     ensures { Holds words.new bytes.new (helper_state (state_of words.old bytes.old) t kind helper) }

@@ -242,11 +242,11 @@ pub extern "C" fn scopes_store(
 
 // Op 08: the value is the reference in a slot of an object.
 #[unsafe(no_mangle)]
-pub extern "C" fn scopes_load<'a>(
+pub extern "C" fn scopes_load(
     words: &Words,
     bytes: &Bytes,
-    permanent: &'a [u64],
-    scratch: &'a [u64],
+    permanent: &[u64],
+    scratch: &[u64],
     map: &[u64],
     written: &[u64],
     t: u64,
@@ -289,11 +289,11 @@ pub extern "C" fn scopes_write(
 
 // Op 0a: the value is a data word of an object.
 #[unsafe(no_mangle)]
-pub extern "C" fn scopes_read<'a>(
+pub extern "C" fn scopes_read(
     words: &Words,
     bytes: &Bytes,
-    permanent: &'a [u64],
-    scratch: &'a [u64],
+    permanent: &[u64],
+    scratch: &[u64],
     map: &[u64],
     written: &[u64],
     t: u64,
@@ -312,11 +312,11 @@ pub extern "C" fn scopes_read<'a>(
 
 // The status of showing an object's data.
 #[unsafe(no_mangle)]
-pub extern "C" fn scopes_view_status<'a>(
+pub extern "C" fn scopes_view_status(
     words: &Words,
     bytes: &Bytes,
-    permanent: &'a [u64],
-    scratch: &'a [u64],
+    permanent: &[u64],
+    scratch: &[u64],
     map: &[u64],
     written: &[u64],
     t: u64,
@@ -332,11 +332,11 @@ pub extern "C" fn scopes_view_status<'a>(
 
 // Where its data lie: a store, the first word and how many; what `views::view` shows.
 #[unsafe(no_mangle)]
-pub extern "C" fn scopes_view_place<'a>(
+pub extern "C" fn scopes_view_place(
     words: &Words,
     bytes: &Bytes,
-    permanent: &'a [u64],
-    scratch: &'a [u64],
+    permanent: &[u64],
+    scratch: &[u64],
     map: &[u64],
     written: &[u64],
     t: u64,

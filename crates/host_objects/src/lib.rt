@@ -61,11 +61,11 @@ pub fn scopes_store(
 }
 
 // Op 08: the value is the reference in a slot of an object.
-pub fn scopes_load<'a>(
+pub fn scopes_load(
     words: &Words,
     bytes: &Bytes,
-    permanent: &'a [u64],
-    scratch: &'a [u64],
+    permanent: &[u64],
+    scratch: &[u64],
     map: &[u64],
     written: &[u64],
     t: u64,
@@ -106,11 +106,11 @@ pub fn scopes_write(
 }
 
 // Op 0a: the value is a data word of an object.
-pub fn scopes_read<'a>(
+pub fn scopes_read(
     words: &Words,
     bytes: &Bytes,
-    permanent: &'a [u64],
-    scratch: &'a [u64],
+    permanent: &[u64],
+    scratch: &[u64],
     map: &[u64],
     written: &[u64],
     t: u64,
@@ -127,11 +127,11 @@ pub fn scopes_read<'a>(
 }
 
 // The status of showing an object's data.
-pub fn scopes_view_status<'a>(
+pub fn scopes_view_status(
     words: &Words,
     bytes: &Bytes,
-    permanent: &'a [u64],
-    scratch: &'a [u64],
+    permanent: &[u64],
+    scratch: &[u64],
     map: &[u64],
     written: &[u64],
     t: u64,
@@ -147,11 +147,11 @@ pub fn scopes_view_status<'a>(
 }
 
 // Where its data lie: a store, the first word and how many; what `views::view` shows.
-pub fn scopes_view_place<'a>(
+pub fn scopes_view_place(
     words: &Words,
     bytes: &Bytes,
-    permanent: &'a [u64],
-    scratch: &'a [u64],
+    permanent: &[u64],
+    scratch: &[u64],
     map: &[u64],
     written: &[u64],
     t: u64,

@@ -42,6 +42,7 @@ pub fn slots(header: u64) -> u64
     header & 0x3fff
 }
 
+// The same shift as an area of a handle has, of another word.
 pub fn data_words(header: u64) -> u64
     ensures { result ≡ data_of header }
 {

@@ -143,6 +143,11 @@ number_is s m h g e = record {
   as_reference = λ n. rw (e, ne_eqb h 0 n) (cases (live s m h) (λ k. rw k) (λ k. rw k));
 }
 
+-- whatever the written map is
+pub refused_as : (s : State) (m : List ℕ → Memory) (h : ℕ) → Good s → {r : Option Resolved} → ((x : List ℕ) → r ≡ found_of s (m x) h)
+    → ((x : List ℕ) → r ≡ found_of s (m x) h) × ((x : List ℕ) → RefusedAs s (m x) h r)
+refused_as s m h g e = (e, λ x. number_is s (m x) h g (e x))
+
 -- a look-up's answer by both clauses
 pub looked_up : (s : State) (m : Memory) (h : ℕ) → Good s → {r : Option Resolved} → r ≡ found_of s m h → record { found : r ≡ found_of s m h; number : RefusedAs s m h r }
 looked_up s m h g e = record { found = e; number = number_is s m h g e }

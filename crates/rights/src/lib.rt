@@ -8,7 +8,8 @@ ghost use Rattle.rights.specs.Kinds.{IsKind};
 
 use std::marker::Model;
 
-// A kind of threads: 1 ordinary, 2 real-time, 3 no-heap. A contract sees it as its number.
+// A kind of threads: 1 ordinary, 2 real-time, 3 no-heap. A contract sees it as its number. It is no enum: a kind is kept in
+// the tables as its number, and a place is counted by it, so an enum would be tested at every use of a right.
 #[derive(Clone, Copy)]
 pub struct Kind {
     number: u64,

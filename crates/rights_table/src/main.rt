@@ -30,7 +30,8 @@ fn read_more(mut stdin: Stdin, input: &mut [u8], n: usize) -> Result<usize, Erro
     Ok(n + more)
 }
 
-// Reads until the input is full or a read adds nothing: how many bytes there are then.
+// Reads until the input is full or a read adds nothing: how many bytes there are then. By hand: without the heap the library
+// has no read that fills a slice as far as the input goes.
 fn read_input(stdin: Stdin, input: &mut [u8]) -> Result<usize, Error>
     ensures { IfOk result (λ n. IsPrefixLen n input.new) }
 {

@@ -9,7 +9,8 @@ use layout::answer::Refusal;
 use model::{Op, StateOp};
 use tables::{Buffers, Bytes, Words};
 
-// The answer and the tables are those of the call's definition; the buffers stay.
+// The answer and the tables are those of the call's definition; the buffers stay. A match, here and for the other ops: each arm
+// has parameters of its own.
 pub fn carry_state(
     words: &mut Words,
     bytes: &mut Bytes,

@@ -67,6 +67,9 @@ pub struct Entry {
 }
 
 // ---- the words
+//
+// Words and bytes are two arrays, and no struct with an invariant: a host in C keeps them and hands over each by itself, the
+// one that a call only reads as const. So what calls ask of both, `Ready`, stands in their contracts.
 
 pub const AREAS: usize = 64;
 

@@ -13,7 +13,7 @@ use layout::answer::Refusal;
 use rights::Kind;
 use tables::{Buffers, Bytes, ThreadWords, Words};
 
-// Another kind of a thread, whose stack stays as it is.
+// Another kind of a thread, whose stack stays as it is. By its number, which is 0 where a thread ends.
 fn put_kind(words: &mut Words, bytes: &Bytes, t: usize, kind: u64)
     requires { Shaped words.old bytes.now × (t < 16) }
     ensures { Holds words.new bytes.now (with_thread (state_of words.old bytes.now) t (with_kind (thread_at (state_of words.old bytes.now) t) kind)) }
