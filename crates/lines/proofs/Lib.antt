@@ -1,2 +1,4 @@
 -- The laws of reading a frame.
 pub mod FrameLaws
+pub mod FieldLaws
+pub mod Lowest

@@ -16,6 +16,13 @@ abbrev pub field_of : List ℕ → ℕ → ℕ → ℕ
 field_of l at n = number_from 0 (take n (drop at l))
 
 -- digits whose number fits a word
-pub record Digits (l : List ℕ) : Type 0 where
+pub record ShortDigits (l : List ℕ) : Type 0 where
   pub short : length l ≤ 16
   pub digits : all_digits l ≡ true
+
+-- n places of a line from at on, all of them digits, whose number fits a word
+pub record Digits (line : List ℕ) (at n : ℕ) : Type 0 where
+  pub sized : length line ≡ 40
+  pub within : at + n ≤ 40
+  pub short : n ≤ 16
+  pub digits : all_digits line ≡ true

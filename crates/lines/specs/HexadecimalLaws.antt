@@ -7,7 +7,7 @@ use Rattle.std.proofs.Math.Nat.{pow-le-pow_right}
 use Rattle.layout.specs.Choice.{and_true}
 use Rattle.hexadecimal.specs.Digit.{is_digit, digit_value}
 use Rattle.hexadecimal.specs.DigitLaws.{value_small}
-use Rattle.lines.specs.Hexadecimal.{all_digits, number_from, Digits}
+use Rattle.lines.specs.Hexadecimal.{all_digits, number_from, ShortDigits}
 
 -- ---- all digits
 
@@ -29,10 +29,10 @@ digits_drop zero l e = e
 digits_drop (suc n) [] e = refl
 digits_drop (suc n) (b ∷ l) e = digits_drop n l (and_true (is_digit b) (all_digits l) e).1
 
-pub digits_part : (at n : ℕ) (l : List ℕ) → n ≤ 16 → all_digits l ≡ true → Digits (take n (drop at l))
+pub digits_part : (at n : ℕ) (l : List ℕ) → n ≤ 16 → all_digits l ≡ true → ShortDigits (take n (drop at l))
 digits_part at n l h e = record { short = omega (arith, length-take n (drop at l)); digits = digits_take n (drop at l) (digits_drop at l e) }
 
-digit_at : (l : List ℕ) (i : ℕ) → all_digits l ≡ true → i < length l → is_digit (get_or l i 0) ≡ true
+pub digit_at : (l : List ℕ) (i : ℕ) → all_digits l ≡ true → i < length l → is_digit (get_or l i 0) ≡ true
 digit_at [] i e h = absurd (omega arith)
 digit_at (b ∷ l) zero e h = (and_true (is_digit b) (all_digits l) e).0
 digit_at (b ∷ l) (suc i) e h = digit_at l i (and_true (is_digit b) (all_digits l) e).1 (omega arith)
@@ -40,10 +40,10 @@ digit_at (b ∷ l) (suc i) e h = digit_at l i (and_true (is_digit b) (all_digits
 -- ---- the number of a field
 
 -- one digit more
-number_more : (l : List ℕ) (i : ℕ) → i < length l → number_from 0 (take (suc i) l) ≡ number_from 0 (take i l) * 16 + digit_value (get_or l i 0)
+pub number_more : (l : List ℕ) (i : ℕ) → i < length l → number_from 0 (take (suc i) l) ≡ number_from 0 (take i l) * 16 + digit_value (get_or l i 0)
 number_more l i h = rw add-one at (fold_more (λ (v b : ℕ). v * 16 + digit_value b) 0 l i 0 h)
 
-module _ {l : List ℕ} (d : Digits l) where
+module _ {l : List ℕ} (d : ShortDigits l) where
   -- below 16^i
   number_below : (i : ℕ) → i ≤ length l → number_from 0 (take i l) < 16 ^ i
   number_below zero h = omega arith

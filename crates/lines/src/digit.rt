@@ -1,6 +1,6 @@
 // Runs of lower-case hexadecimal digits, and the number that one stands for.
 ghost use Rattle.std.specs.Prelude.{◌≡◌};
-ghost use Rattle.lines.specs.Hexadecimal.{all_digits, number_from, Digits};
+ghost use Rattle.lines.specs.Hexadecimal.{all_digits, number_from, ShortDigits};
 
 use hexadecimal::{digit_value, is_digit};
 
@@ -13,7 +13,7 @@ pub fn all_digits(text: &[u8; 40]) -> bool
 
 // The number of at most 16 digits, the highest first: below 16^16, so that nothing wraps.
 pub fn field(digits: &[u8]) -> u64
-    requires { Digits digits.now }
+    requires { ShortDigits digits.now }
     ensures { result ≡ number_from 0 digits.now }
 {
     let mut value = 0u64;

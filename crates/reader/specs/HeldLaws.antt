@@ -1,7 +1,7 @@
 -- Laws of what is held: a byte fed in each case, and the end of input.
 -- Assumes nothing.
 use Rattle.std.specs.Prelude.{Bool, ltb, Some, None, drop, ◌≡◌, refl, List, [], ◌∷◌, ◌++◌, ℕ, ◌+◌, ◌*◌, ◌≤◌, ◌<◌, eqb, length, take, get_or, replicate}
-use Rattle.std.proofs.Common.{sym, ap, ◌∙◌, subst, append-nil, arith, eq-eqb, add-one, append_assoc, length-append, length-take}
+use Rattle.std.proofs.Common.{sym, ap, ◌∙◌, subst, append-nil, arith, eq-eqb, add-one, append_assoc, length-append, length-take, take-suc}
 use Rattle.std.specs.List.{position, position_or_len}
 use Rattle.std.proofs.lemmas.List.Quantifiers.{position-Some}
 use Rattle.std.proofs.lemmas.List.{get_or-take, take-append-drop}
@@ -111,6 +111,11 @@ no_feed_left rest p k h =
 
 pub fed_to_end : {e x y : Held} {rest input : List ℕ} → FedTo e x rest input → Feeds x y rest → Feeds e y input
 fed_to_end {e} {x} {y} {rest} t f = subst (Feeds e y) t.split (feeds_append e x y t.before rest t.fed f)
+
+-- one byte more of the input
+pub feeds_more : (e x y : Held) (input : List ℕ) (i : ℕ) → i < length input → Feeds e x (take i input) → Feeds x y (get_or input i 0 ∷ [])
+    → Feeds e y (take (i + 1) input)
+feeds_more e x y input i h a b = rw (add-one, take-suc input i 0 h) (feeds_append e x y (take i input) (get_or input i 0 ∷ []) a b)
 
 -- ---- the end of input
 

@@ -18,7 +18,7 @@ use Rattle.model.specs.References.{place_after}
 use Rattle.model.specs.Data.{data_index, view_refusal, view_words}
 use Rattle.model.specs.Invariant.{Good}
 use Rattle.model.proofs.Accepted.{admitted, use_ok}
-use Rattle.model.proofs.Outcomes.{fit_fitted}
+use Rattle.model.proofs.Outcomes.{unfit_fitted, fit_fitted}
 use Rattle.objects.specs.declared.find.Resolved.{Resolved}
 use Rattle.objects.specs.Found.{object_of}
 use Rattle.objects.proofs.Places.{Lies}
@@ -34,6 +34,10 @@ module _ (s : State) (m : Memory) (t p : ℕ) where
   pub place_refused : {n : ℕ} → n ≡ view_refusal s m t p → n ≢ 0 → record { status = n; store = 0; from = 0; len = 0 } ≡ view_place_of s m t p
   unfolding view_place_of view_store view_from view_length
   place_refused e h = rw (ne_eqb (view_refusal s m t p) 0 (λ z. h (e ∙ z)), ← e) refl
+
+  -- lent other lengths
+  pub refused_1 : fits s m ≡ false → 1 ≡ view_refusal s m t p
+  refused_1 u = sym (unfit_fitted s m u _)
 
   -- of an accepted one, with its object
   module _ (z : view_refusal s m t p ≡ 0) (o : Resolved) (e : o ≡ object_of s m p) where
