@@ -120,6 +120,10 @@ fn zeros<const N: usize>() -> [u64; N]
 
 // The whole run, over buffers of its own.
 fn run(streams: Streams) {
+    // A chunk of the input, and room for an answer to each byte of it. Made first: after the call of set-up the compiler
+    // no longer sees that their bytes are 0, as those of every local are, and sets them to 0 again.
+    let mut input = room::<16384>();
+    let mut output: Output = room();
     let mut permanent = zeros::<2048>();
     let mut scratch = zeros::<4096>();
     let mut map = zeros::<96>();
@@ -128,9 +132,6 @@ fn run(streams: Streams) {
     let begun = setup::set_up(&buffers, 1024, 1024);
     let mut words = begun.words;
     let mut bytes = begun.bytes;
-    // A chunk of the input, and room for an answer to each byte of it.
-    let mut input = room::<16384>();
-    let mut output: Output = room();
     answer_all(
         streams,
         &mut words,

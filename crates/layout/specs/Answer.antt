@@ -1,7 +1,7 @@
 -- The reply of a call: a value or a refusal, and the same in numbers.
 -- Assumes nothing.
-use Rattle.std.specs.Prelude.{ℕ, ◌≡◌, ◌≢◌, Result, Ok, Err}
-use Rattle.std.proofs.Common.{arith}
+use Rattle.std.specs.Prelude.{ℕ, ◌≡◌, ◌≢◌, refl, Result, Ok, Err, List, [], ◌∷◌, get_or}
+use Rattle.std.proofs.Common.{sym, ap, ◌∙◌, arith}
 use Rattle.layout.specs.declared.answer.Answer.{Answer}
 use Rattle.layout.specs.declared.answer.Refusal.{Refusal}
 use Rattle.layout.specs.declared.answer.Refusal.TheVariants.{Lengths, Thread, Started, Kind, Right, Area, Made, Size, StackFull, Parent, Entries, Room, Object, Index, Target, Assignment, GenerationsOut, NoFrame, Unwritten, Open, Table, Running}
@@ -77,3 +77,62 @@ number_some Unwritten e = omega arith
 number_some Open e = omega arith
 number_some Table e = omega arith
 number_some Running e = omega arith
+
+-- the refusals by their numbers; where a number is none's, the last stands
+abbrev refusals : List Refusal
+refusals =
+    Running ∷ Lengths ∷ Thread ∷ Started ∷ Kind ∷ Right ∷ Area ∷ Made ∷ Size ∷ StackFull ∷ Parent ∷ Entries ∷ Room ∷ Object ∷
+    Index ∷ Target ∷ Assignment ∷ GenerationsOut ∷ NoFrame ∷ Unwritten ∷ Open ∷ Running ∷ Running ∷ Table ∷ Running ∷ []
+
+abbrev refusal_at : ℕ → Refusal
+refusal_at n = get_or refusals n Running
+
+number_back : (r : Refusal) → refusal_at (number_of r) ≡ r
+number_back Lengths = refl
+number_back Thread = refl
+number_back Started = refl
+number_back Kind = refl
+number_back Right = refl
+number_back Area = refl
+number_back Made = refl
+number_back Size = refl
+number_back StackFull = refl
+number_back Parent = refl
+number_back Entries = refl
+number_back Room = refl
+number_back Object = refl
+number_back Index = refl
+number_back Target = refl
+number_back Assignment = refl
+number_back GenerationsOut = refl
+number_back NoFrame = refl
+number_back Unwritten = refl
+number_back Open = refl
+number_back Table = refl
+number_back Running = refl
+
+-- refusals of one number are the same
+pub number_one : (r r₁ : Refusal) → number_of r ≡ number_of r₁ → r ≡ r₁
+number_one r r₁ e = sym (number_back r) ∙ ap refusal_at e ∙ number_back r₁
+
+module _ {A : Type 0} (x : A) where
+  -- what a check answers
+  pub passed_verdict : {y : A} {k : ℕ} → y ≡ x → 0 ≡ k → Verdict (Ok y) x k
+  passed_verdict e z = (e, sym z)
+
+  pub refused_verdict : (r : Refusal) {n k : ℕ} → number_of r ≡ n → n ≡ k → Verdict (Err r) x k
+  refused_verdict r e z = e ∙ z
+
+  -- what its answer says
+  pub verdict_passed : {y : A} {k : ℕ} → Verdict (Ok y) x k → (k ≡ 0) × (y ≡ x)
+  verdict_passed d = (d.1, d.0)
+
+  pub verdict_refused : (r : Refusal) {k : ℕ} → Verdict (Err r) x k → (number_of r ≡ k) × (number_of r ≢ 0)
+  verdict_refused r d = (d, number_some r)
+
+  -- there is one answer
+  pub verdict_one : (c d : Result A Refusal) (k : ℕ) → Verdict c x k → Verdict d x k → c ≡ d
+  verdict_one (Ok y) (Ok z) k e f = ap Ok (e.0 ∙ sym f.0)
+  verdict_one (Ok y) (Err r) k e f = absurd (number_some r (f ∙ e.1))
+  verdict_one (Err r) (Ok y) k e f = absurd (number_some r (e ∙ f.1))
+  verdict_one (Err r) (Err q) k e f = ap Err (number_one r q (e ∙ sym f))

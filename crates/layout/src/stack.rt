@@ -87,3 +87,20 @@ impl ScopeStack {
         Ok(area)
     }
 }
+
+// The stack with one entry more, by value, of any push: as it was where the push is refused.
+pub fn pushed(s: ScopeStack, area: u64) -> ScopeStack
+    ensures { result ≡ pushed_stack s area }
+{
+    s.pushed(area).unwrap_or(s)
+}
+
+// The stack without its top entry, by value, of any pop: as it was where there is none.
+pub fn popped(s: ScopeStack) -> ScopeStack
+    ensures { result ≡ popped_stack s }
+{
+    match s.popped() {
+        Ok((next, _)) => next,
+        Err(_) => s,
+    }
+}

@@ -1,11 +1,12 @@
 -- Laws of a field by its place in a line: byte by byte, and digit by digit.
 -- Assumes nothing.
-use Rattle.std.specs.Prelude.{◌≡◌, refl, Bool, true, false, ◌&&◌, List, [], ◌∷◌, ℕ, zero, suc, ◌+◌, ◌*◌, ◌^◌, ◌≤◌, ◌<◌, length, drop, get_or}
+use Rattle.std.specs.Prelude.{◌≡◌, refl, Bool, true, false, ◌&&◌, List, [], ◌∷◌, ℕ, zero, suc, ◌+◌, ◌*◌, ◌^◌, ◌≤◌, ◌<◌, ◌++◌, length, drop, get_or}
 use Rattle.std.proofs.Common.{sym, ◌∙◌, pow-suc, add-one, arith, length-drop, drop-cons, get_or-drop}
 use Rattle.std.proofs.Math.Nat.{pow-le-pow_right}
 use Rattle.hexadecimal.specs.Digit.{is_digit, digit_value}
 use Rattle.hexadecimal.specs.DigitLaws.{value_small}
-use Rattle.lines.specs.Hexadecimal.{all_digits, field_of, Digits}
+use Rattle.std.proofs.lemmas.List.Sums.{fold-append}
+use Rattle.lines.specs.Hexadecimal.{all_digits, number_from, field_of, Digits}
 use Rattle.lines.specs.HexadecimalLaws.{digit_at, number_more}
 
 -- ---- all digits
@@ -33,6 +34,10 @@ module _ (l : List ℕ) (i : ℕ) where
   all_read false h v = v
 
 -- ---- the number of a field
+
+-- behind other digits
+number_append : (v : ℕ) (l : List ℕ) (b : ℕ) → number_from v (l ++ (b ∷ [])) ≡ number_from v l * 16 + digit_value b
+number_append v l b = fold-append (λ (v b : ℕ). v * 16 + digit_value b) v l (b ∷ [])
 
 pub field_none : (l : List ℕ) (at : ℕ) → 0 ≡ field_of l at 0
 field_none l at = refl

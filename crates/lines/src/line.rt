@@ -28,10 +28,13 @@ impl Line {
     }
 
     // Bytes more, none of them a line feed. They are copied together, so that the length is read and
-    // written once.
+    // written once. Where there are none, as before the end of an empty line, a copy would only cost its call.
     pub fn add_bytes(&mut self, bytes: &[u8])
         ensures { (l : List ℕ) → Buffered self.old l → Buffered self.new (l ++ bytes.now) }
     {
+        if bytes.is_empty() {
+            return;
+        }
         if self.len < 40 {
             let kept = bytes.len().min(40 - self.len);
             self.text[self.len..self.len + kept].copy_from_slice(&bytes[..kept]);

@@ -1,9 +1,10 @@
 -- The load of a rights table: its tests, one law for each way that its checks end, and what it leaves.
 -- Assumes nothing.
-use Rattle.std.specs.Prelude.{ℕ, zero, suc, ◌+◌, ◌*◌, ◌<◌, Bool, true, false, ◌&&◌, ◌||◌, List, ◌≢◌, ◌≡◌, eqb, ltb, length, get_or, MatchBool}
+use Rattle.std.specs.Prelude.{ℕ, zero, suc, ◌+◌, ◌*◌, ◌≤◌, ◌<◌, Bool, true, false, ◌&&◌, ◌||◌, List, ◌≢◌, ◌≡◌, eqb, ltb, length, take, get_or, fold, MatchBool}
 use Rattle.std.proofs.Math.Bool.{not}
 use Rattle.std.proofs.Math.Path.{refl, sym, ap, subst}
-use Rattle.std.proofs.Common.{◌∙◌, arith, eq-eqb, ne_eqb, eqb-true, true≢false}
+use Rattle.std.proofs.Common.{◌∙◌, add-one, arith, eq-eqb, ne_eqb, eqb-true, take_all, true≢false}
+use Rattle.std.proofs.lemmas.List.Sums.{fold_more}
 use Rattle.std.proofs.lemmas.Bool.{eqb-false}
 use Rattle.std.proofs.lemmas.List.FromFn.{length-range_with_len, get_or-range_with_len}
 use Rattle.std.specs.List.{AllWithin, HoldsAt, range_with_len}
@@ -106,6 +107,19 @@ module _ (text : List ℕ) where
       → r ≡ only_binary text
   binary_told e true h = binary_all table_size refl (all_told (λ (i : ℕ). is_binary (get_or text i 0)) table_size true (λ k l. h k 0 (omega arith) (omega (arith, e, l))))
   binary_told e false (k, l, d) = binary_all table_size refl (all_told (λ (i : ℕ). is_binary (get_or text i 0)) table_size false (k, omega (arith, e, l), d 0))
+
+  -- what the fold over the digits yields
+  folded : (n : ℕ) → n ≤ length text → fold (λ (all : Bool) (c : ℕ). all && is_binary c) true (take n text) ≡ binary_below n
+  unfolding all_below
+  folded zero h = refl
+  folded (suc n) h =
+      (rw add-one at (fold_more (λ (all : Bool) (c : ℕ). all && is_binary c) true text n 0 h))
+      ∙ ap (λ (all : Bool). all && is_binary (get_or text n 0)) (folded n (omega arith))
+
+  pub binary_folded : length text ≡ table_size → fold (λ (all : Bool) (c : ℕ). all && is_binary c) true text ≡ only_binary text
+  binary_folded e =
+      sym (ap (fold (λ (all : Bool) (c : ℕ). all && is_binary c) true) (take_all table_size text (omega (arith, e))))
+      ∙ binary_all table_size refl (folded table_size (omega (arith, e)))
 
   -- in the classes so far A stands only with U
   pub uses_none : true ≡ all_below (allocator_uses text) 0

@@ -15,12 +15,16 @@ use tables::{Bytes, Words};
 
 // ---- what may be loaded
 
-// Whether each of 36 digits is 0 or 1.
+// Whether each of 36 digits is 0 or 1. Nothing ends the fold early, here and below, so that the compiler can look at
+// several digits at a time: by tests that end at the first that decides a load took twice as many instructions.
 fn only_binary(text: &[u8]) -> bool
     requires { length text.now ≡ table_size }
     ensures { result ≡ only_binary text.now }
 {
-    text.iter().all(|digit| *digit == b'0' || *digit == b'1')
+    text.iter().fold(
+        true,
+        |all, digit| all & ((*digit == b'0') | (*digit == b'1')),
+    )
 }
 
 // Whether in each of the nine groups of four digits A stands only with U.
@@ -28,7 +32,11 @@ fn allocators_use(text: &[u8]) -> bool
     requires { length text.now ≡ table_size }
     ensures { result ≡ allocators_use text.now }
 {
-    (0..9).all(|g| text[g * 4 + 1] == b'0' || text[g * 4 + 2] == b'1')
+    let mut all = true;
+    for g in 0..9 {
+        all &= (text[g * 4 + 1] == b'0') | (text[g * 4 + 2] == b'1');
+    }
+    all
 }
 
 fn is_table(text: &[u8]) -> bool
@@ -42,7 +50,11 @@ fn is_table(text: &[u8]) -> bool
 fn any_started(words: &Words, bytes: &Bytes) -> bool
     ensures { result ≡ any_started (state_of words.now bytes.now) }
 {
-    (0..16).any(|t| 0 < held_threads::thread_at(words, t).kind)
+    let mut some = false;
+    for t in 0..16 {
+        some |= 0 < held_threads::thread_at(words, t).kind;
+    }
+    some
 }
 
 fn check_load(words: &Words, bytes: &Bytes, text: &[u8]) -> Result<(), Refusal>

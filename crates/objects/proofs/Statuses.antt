@@ -1,6 +1,6 @@
 -- One law for each way that the checks of every call on an object end.
 -- Assumes nothing.
-use Rattle.std.specs.Prelude.{ℕ, List, ◌≤◌, ◌<◌, true, false, ◌≡◌, refl, ◌≢◌, leb, Some, None}
+use Rattle.std.specs.Prelude.{ℕ, List, ◌≤◌, ◌<◌, true, false, ◌≡◌, refl, ◌≢◌, leb, Option, Some, None, Result, Ok, Err}
 use Rattle.std.proofs.Math.Bool.{not}
 use Rattle.std.proofs.Math.Path.{sym, ap, fun_ext}
 use Rattle.std.proofs.Common.{◌∙◌, subst, leb-false, le-leb}
@@ -8,6 +8,7 @@ use Rattle.std.proofs.lemmas.Bool.{lt-leb}
 use Rattle.layout.specs.Choice.{refuse, hit, skip, peel}
 use Rattle.layout.specs.Handle.{area_of}
 use Rattle.layout.specs.Header.{slots_of, data_of}
+use Rattle.layout.specs.declared.answer.Refusal.{Refusal}
 use Rattle.rights.specs.declared.Right.TheVariants.{Use}
 use Rattle.model.specs.State.{State, Memory, with_written}
 use Rattle.model.specs.Checks.{has_right, header_at, live, is_object, use_rest}
@@ -18,10 +19,13 @@ use Rattle.model.proofs.Accepted.{UseOk, use_ok}
 use Rattle.objects.specs.declared.find.Resolved.{Resolved}
 use Rattle.objects.specs.declared.index.Part.{Part}
 use Rattle.objects.specs.declared.index.Part.TheVariants.{Slots, Data}
+use Rattle.objects.specs.declared.index.WordPlace.{WordPlace}
 use Rattle.objects.specs.Found.{object_of, found_of}
 use Rattle.objects.specs.Indexed.{part_count, index_rest, word_of}
-use Rattle.objects.proofs.Places.{at_live, nothing_live, object_live}
+use Rattle.objects.specs.Resolving.{Finds, Numbers, Checks, Indexes}
+use Rattle.objects.proofs.Places.{at_live, nothing_live, object_live, object_any, found_any, number_any}
 use Rattle.objects.specs.Chains.{Chain, chain_none, chain_more}
+use Rattle.tables.specs.Decode.{state_of}
 
 -- ---- the fields of the object that a handle leads to
 
@@ -121,3 +125,26 @@ module _ (s : State) (m : Memory) (x : List ℕ) (t p : ℕ) where
   unfolding word_of
   word_any Slots q = refl
   word_any Data q = refl
+
+-- ---- so what a look-up and the checks of a call say of the lent buffers they say of any written map
+
+module _ (w b : List ℕ) (m : Memory) (x : List ℕ) where
+  abbrev s : State
+  s = state_of w b
+
+  pub finds_any : (r : Option Resolved) (h : ℕ) → Finds r w b m h → Finds r w b (with_written m x) h
+  finds_any r h e = e ∙ sym (found_any s m x h)
+
+  pub numbers_any : (r : Option Resolved) (h : ℕ) → Numbers r w b m h → Numbers r w b (with_written m x) h
+  numbers_any r h e = number_any s m x h r e
+
+  pub checks_any : (r : Result Resolved Refusal) (t p : ℕ) → Checks r w b m p (λ s n. use_rest s n t p 0)
+      → Checks r w b (with_written m x) p (λ s n. use_rest s n t p 0)
+  checks_any (Ok o) t p e = (e.0 ∙ sym (object_any s m x p), use_any s m x t p 0 ∙ e.1)
+  checks_any (Err r) t p e = e ∙ sym (use_any s m x t p 0)
+
+  pub indexes_any : (r : Result WordPlace Refusal) (t p : ℕ) (part : Part) (q : ℕ)
+      → Indexes r w b m p part q (λ s n. index_rest part s n t p q 0)
+      → Indexes r w b (with_written m x) p part q (λ s n. index_rest part s n t p q 0)
+  indexes_any (Ok o) t p part q e = (e.0 ∙ sym (word_any s m x t p part q), index_any s m x t p part q 0 ∙ e.1)
+  indexes_any (Err r) t p part q e = e ∙ sym (index_any s m x t p part q 0)

@@ -128,6 +128,9 @@ finishes_none k line out y n = record {
       rw (n l h, finished_none w) (record { represents = s; buffered = buffered_none line h.sized; at_is = refl; output_is = refl });
 }
 
+empty_count : (line : Line) → Buffered line [] → line.len ≡ 0
+empty_count line h = omega (arith, h.count)
+
 pub finishes_rest : (k n : Core) (line : Line) (out written : List ℕ) → Ended k n line out 0 written → ((l : List ℕ) → Buffered line l → l ≡ [] → ⊥)
     → Finishes (held k line out 0) (held n (emptied line) written 19)
 finishes_rest k n line out written d q = record {

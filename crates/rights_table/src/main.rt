@@ -7,9 +7,9 @@
 //
 // What is not proved, and has to be read: the bodies of the functions that call the system, `read_more`
 // and `write_digits`, with `tell_unwritten` and `refuses_arguments` in `console`, since no contract says
-// which bytes `read` gave and `write_all` took; and in `run`, that the input to answer is all that was
-// read. By their types, `read_input` can write nothing, and `answer` reads nothing: neither is given the
-// handle for it.
+// which bytes `read` gave and `write_all` took; and `run`, where the input to answer is all that was
+// read, and a read that failed is told and nothing answered. By their types, `read_input` can write
+// nothing, and `answer` reads nothing: neither is given the handle for it.
 #![tactic(auto)]
 
 ghost use Rattle.std.specs.Prelude.{◌≡◌, ◌≤◌, length, take, IfOk};

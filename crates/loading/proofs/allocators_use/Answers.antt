@@ -1,16 +1,13 @@
 -- `allocators_use` meets its contract.
-use Rattle.std.proofs.Common.{ℕ, ◌≡◌, true, false, refl}
-use borrow.Author.Rules.{rules}
-use borrow.Author.Tests.{tests}
-use Rattle.std.proofs.lemmas.Iterator.{cases_from_all, YieldsList-from_range}
-use Rattle.rights.specs.Rights.{allocator_uses, allocators_use}
-use Rattle.loading.specs.Load.{uses_all, all_in_range}
+use Rattle.std.proofs.Common.{arith}
+use Rattle.loading.specs.Load.{uses_none, uses_more, uses_all}
 use Rattle.loading.proofs.allocators_use.Goals as goal
 
+pub loop-g-init : goal.loop-g-init
+loop-g-init c = uses_none c.args.text.now
+
+pub loop-g-preserved : goal.loop-g-preserved
+loop-g-preserved c = uses_more c.args.text.now c.loop-g.g c.loop-g.invariant
+
 pub returns : goal.returns
-unfolding allocator_uses allocators_use
-returns c =
-    let text = c.args.text.now in
-    uses_all text 9 refl
-    (all_in_range (allocator_uses text) 9 _
-    (cases_from_all _ _ _ (λ (g : ℕ). allocator_uses text g ≡ true) (λ (g : ℕ). allocator_uses text g ≡ false) c.all.ensures.ran (YieldsList-from_range 0 9 9 refl refl) (λ x q k. search (rules, tests)) (λ x q k. search (rules, tests))))
+returns c = uses_all c.args.text.now c.loop-g.g (omega arith) c.loop-g.invariant

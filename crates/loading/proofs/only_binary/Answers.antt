@@ -1,14 +1,14 @@
--- `only_binary` meets its contract.
-use Rattle.std.proofs.Common.{ℕ, ◌≡◌, true, false}
-use borrow.Author.Rules.{rules}
-use borrow.Author.Tests.{tests}
-use Rattle.std.proofs.lemmas.Iterator.{cases_from_all, YieldsList-from_slice}
-use Rattle.rights.specs.Rights.{is_binary, only_binary}
-use Rattle.loading.specs.Load.{binary_told}
+-- `only_binary` meets its contract: the fold looks at every digit.
+use Rattle.std.proofs.Common.{arith, ◌≡◌, ◌&&◌, Bool, true, ℕ, ◌∙◌}
+use Rattle.std.proofs.lemmas.Grind.{common_steps}
+use Rattle.std.specs.List.{fold}
+use Rattle.rights.specs.Rights.{is_binary}
+use Rattle.loading.specs.Load.{binary_folded}
 use Rattle.loading.proofs.only_binary.Goals as goal
 
 pub returns : goal.returns
-unfolding is_binary only_binary
+unfolding is_binary
 returns c =
-    binary_told _ c.requires _
-    (cases_from_all _ _ _ (λ (x : ℕ). is_binary x ≡ true) (λ (x : ℕ). is_binary x ≡ false) c.all.ensures.ran (YieldsList-from_slice c.args.text.now cc) (λ x q k. search (rules, tests)) (λ x q k. search (rules, tests)))
+    let text = c.args.text.now in
+    let e : c.fold.result ≡ fold (λ (all : Bool) (d : ℕ). all && is_binary d) true text = grind (arith, common_steps) in
+    e ∙ binary_folded text c.requires
