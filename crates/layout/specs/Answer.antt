@@ -117,18 +117,18 @@ number_one r r₁ e = sym (number_back r) ∙ ap refusal_at e ∙ number_back r�
 
 module _ {A : Type 0} (x : A) where
   -- what a check answers
-  pub passed_verdict : {y : A} {k : ℕ} → y ≡ x → 0 ≡ k → Verdict (Ok y) x k
-  passed_verdict e z = (e, sym z)
+  pub ok_verdict : {y : A} {k : ℕ} → y ≡ x → 0 ≡ k → Verdict (Ok y) x k
+  ok_verdict e z = (e, sym z)
 
-  pub refused_verdict : (r : Refusal) {n k : ℕ} → number_of r ≡ n → n ≡ k → Verdict (Err r) x k
-  refused_verdict r e z = e ∙ z
+  pub err_verdict : (r : Refusal) {n k : ℕ} → number_of r ≡ n → n ≡ k → Verdict (Err r) x k
+  err_verdict r e z = e ∙ z
 
   -- what its answer says
-  pub verdict_passed : {y : A} {k : ℕ} → Verdict (Ok y) x k → (k ≡ 0) × (y ≡ x)
-  verdict_passed d = (d.1, d.0)
+  pub verdict_ok : {y : A} {k : ℕ} → Verdict (Ok y) x k → (k ≡ 0) × (y ≡ x)
+  verdict_ok d = (d.1, d.0)
 
-  pub verdict_refused : (r : Refusal) {k : ℕ} → Verdict (Err r) x k → (number_of r ≡ k) × (number_of r ≢ 0)
-  verdict_refused r d = (d, number_some r)
+  pub verdict_err : (r : Refusal) {k : ℕ} → Verdict (Err r) x k → (number_of r ≡ k) × (number_of r ≢ 0)
+  verdict_err r d = (d, number_some r)
 
   -- there is one answer
   pub verdict_one : (c d : Result A Refusal) (k : ℕ) → Verdict c x k → Verdict d x k → c ≡ d
