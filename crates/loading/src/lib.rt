@@ -15,8 +15,8 @@ use tables::{Bytes, Words};
 
 // ---- what may be loaded
 
-// Whether each of 36 digits is 0 or 1. Nothing ends the fold early, here and below, so that the compiler can look at
-// several digits at a time: by tests that end at the first that decides a load took twice as many instructions.
+// Whether each of 36 digits is 0 or 1. No digit ends the fold early, and no group or thread its loop below, so that the
+// compiler can look at several at a time: by `all` and `any` a load took 274 instructions where this has 154.
 fn only_binary(text: &[u8]) -> bool
     requires { length text.now ≡ table_size }
     ensures { result ≡ only_binary text.now }
